@@ -1,0 +1,6 @@
+pub mod Replies
+pub mod Lists
+pub mod Blank
+pub mod Range
+pub mod Check
+pub mod Worked

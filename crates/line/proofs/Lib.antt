@@ -1,0 +1,4 @@
+pub mod Vectors
+pub mod Lines
+pub mod Circles
+pub mod Bounds

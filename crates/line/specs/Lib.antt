@@ -1,0 +1,8 @@
+pub mod Box
+pub mod Vector
+pub mod Location
+pub mod Circle
+pub mod Line
+pub mod Held
+pub mod Bounds
+pub mod Worked

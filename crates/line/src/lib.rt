@@ -1,0 +1,339 @@
+// The gradient line in a box: its length, and the location of each pixel on it, in units of 1/64 px.
+use gradient::Coordinate;
+use gradient::Direction;
+use gradient::Extent;
+use gradient::Horizontal;
+use gradient::Shape;
+use gradient::Side;
+use gradient::Size;
+use gradient::Vertical;
+ghost use mathlib.Core.Path.{_≡_};
+ghost use mathlib.Core.Bool.{true};
+ghost use Prim.Native.Nat.{_+_, _*_, _≤_, _<_};
+ghost use lib.IntN.{natAbs};
+ghost use Rattle.numbers.specs.Held.{offset, unheld};
+ghost use Rattle.root.specs.Root.{rootOf};
+ghost use Rattle.gradient.specs.Range.{coordinateIn, directionIn, sizeIn, shapeIn};
+ghost use Rattle.line.specs.Box.{Box};
+ghost use Rattle.line.specs.Vector.{sideVector, vector, across, down, angleVector, vectorOf};
+ghost use Rattle.line.specs.Location.{squared, norm, lineLength, lineRule, locationBy};
+ghost use Rattle.line.specs.Circle.{coordinateUnits, centerOf, from, ofSides, ofCorners, radiusOf, circleRule};
+ghost use Rattle.line.specs.Line.{lengthOf, ruleOf};
+ghost use Rattle.line.specs.Held.{isLeft, isTop, vectorIn, IsVector, Bounded, oddOf, centerIn, IsCenter, Near, chosen, Sound, IsLine, ruleIn};
+
+// A vector as two sizes, with the signs beside them.
+pub struct HeldVector {
+    pub x: u32,
+    pub y: u32,
+    pub left: bool,
+    pub up: bool,
+}
+
+// A circle's center, each coordinate held with 2^25 added.
+pub struct HeldCenter {
+    pub x: u32,
+    pub y: u32,
+}
+
+// What a pixel's location is measured along or from.
+pub enum Line {
+    Straight(HeldVector),
+    Circle(HeldCenter),
+}
+
+fn side_vector(s: Side) -> HeldVector
+    ensures { λ r. ⌜ IsVector r (sideVector s) ⌝ }
+{
+    match s {
+        Side::Top => HeldVector {
+            x: 0,
+            y: 1,
+            left: false,
+            up: true,
+        },
+        Side::Right => HeldVector {
+            x: 1,
+            y: 0,
+            left: false,
+            up: false,
+        },
+        Side::Bottom => HeldVector {
+            x: 0,
+            y: 1,
+            left: false,
+            up: false,
+        },
+        Side::Left => HeldVector {
+            x: 1,
+            y: 0,
+            left: true,
+            up: false,
+        },
+    }
+}
+
+fn is_left(h: Horizontal) -> bool
+    ensures { λ r. ⌜ r ≡ isLeft h ⌝ }
+{
+    match h {
+        Horizontal::Left => true,
+        Horizontal::Right => false,
+    }
+}
+
+fn is_top(v: Vertical) -> bool
+    ensures { λ r. ⌜ r ≡ isTop v ⌝ }
+{
+    match v {
+        Vertical::Top => true,
+        Vertical::Bottom => false,
+    }
+}
+
+fn corner_vector(v: Vertical, a: Horizontal, w: usize, h: usize) -> HeldVector
+    requires { ⌜ Box w h ⌝ }
+    ensures { λ r. ⌜ IsVector r (vector (across a h) (down v w)) ⌝ }
+{
+    let left = is_left(a);
+    let up = is_top(v);
+    HeldVector {
+        x: h as u32,
+        y: w as u32,
+        left,
+        up,
+    }
+}
+
+// The vector of an angle in thousandths of a degree.
+fn angle_vector(a: i32) -> HeldVector
+    requires { ⌜ natAbs a ≤ offset ⌝ }
+    ensures { λ r. ⌜ IsVector r (angleVector a) ⌝ }
+{
+    // 2^25 and 285,568 is 94 whole turns
+    let q = (numbers::hold(a) + 285568) % 360000 / 250;
+    let r = (q % 360) as usize;
+    let near = sine::sine(r);
+    let far = sine::sine(360 - r);
+    match q / 360 {
+        0 => HeldVector {
+            x: near,
+            y: far,
+            left: false,
+            up: true,
+        },
+        1 => HeldVector {
+            x: far,
+            y: near,
+            left: false,
+            up: false,
+        },
+        2 => HeldVector {
+            x: near,
+            y: far,
+            left: true,
+            up: false,
+        },
+        _ => HeldVector {
+            x: far,
+            y: near,
+            left: true,
+            up: true,
+        },
+    }
+}
+
+pub fn direction_vector(d: Direction, w: usize, h: usize) -> HeldVector
+    requires { ⌜ Box w h × (directionIn d ≡ true) ⌝ }
+    ensures { λ r. ⌜ IsVector r (vectorOf d w h) ⌝ }
+{
+    match d {
+        Direction::Side(s) => side_vector(s),
+        Direction::Corner(v, a) => corner_vector(v, a, w, h),
+        Direction::Angle(a) => angle_vector(a),
+    }
+}
+
+// a times the vector's width and b times its height.
+fn weighted(a: u64, b: u64, v: HeldVector) -> u64
+    requires { ⌜ (a ≤ 4096) × (b ≤ 4096) ⌝ }
+    ensures { λ r. ⌜ r ≡ a * v .x + b * v .y ⌝ }
+{
+    let x = v.x as u64;
+    let y = v.y as u64;
+    a * x + b * y
+}
+
+// The greatest q whose square times the vector's norm is at most t squared.
+fn on_line(t: u64, v: HeldVector) -> u64
+    requires { ⌜ (t < 4294967296) × Bounded v ⌝ }
+    ensures { λ r. ⌜ r ≡ rootOf (norm (vectorIn v)) (squared t) ⌝ }
+{
+    let x = v.x as u64;
+    let y = v.y as u64;
+    root::root(t * t / (x * x + y * y))
+}
+
+fn vector_length(v: HeldVector, w: usize, h: usize) -> u64
+    requires { ⌜ Box w h × Bounded v ⌝ }
+    ensures { λ r. ⌜ r ≡ lineLength w h (vectorIn v) ⌝ }
+{
+    let s = weighted(w as u64, h as u64, v);
+    on_line(64 * s, v)
+}
+
+// Twice the distance of pixel i's middle from the side of the box that the direction starts at.
+fn odd(i: usize, w: usize, back: bool) -> u64
+    requires { ⌜ (i < w) × (w ≤ 2048) ⌝ }
+    ensures { λ r. ⌜ r ≡ oddOf back w i ⌝ }
+{
+    if back {
+        2 * ((w - 1 - i) as u64) + 1
+    } else {
+        2 * (i as u64) + 1
+    }
+}
+
+fn vector_location(v: HeldVector, w: usize, h: usize, i: usize, j: usize) -> u64
+    requires { ⌜ Box w h × Bounded v × (i < w) × (j < h) ⌝ }
+    ensures { λ r. ⌜ r ≡ locationBy (lineRule w h (vectorIn v)) i j ⌝ }
+{
+    let a = odd(i, w, v.left);
+    let b = odd(j, h, v.up);
+    let s = weighted(a, b, v);
+    on_line(32 * s, v)
+}
+
+// A coordinate of a circle's center in units, held, in a box of so many pixels along its axis.
+fn coordinate_units(c: Coordinate, pixels: usize) -> u32
+    requires { ⌜ (coordinateIn c ≡ true) × (pixels ≤ 2048) ⌝ }
+    ensures { λ r. ⌜ unheld r ≡ coordinateUnits c pixels ⌝ }
+{
+    match c {
+        Coordinate::Length(t) => numbers::length_units(t),
+        Coordinate::Percentage(p) => numbers::percentage_units(p, (64 * pixels) as u32),
+    }
+}
+
+pub fn circle_center(x: Coordinate, y: Coordinate, w: usize, h: usize) -> HeldCenter
+    requires { ⌜ Box w h × (coordinateIn x ≡ true) × (coordinateIn y ≡ true) ⌝ }
+    ensures { λ r. ⌜ IsCenter r (centerOf x y w h) ⌝ }
+{
+    HeldCenter {
+        x: coordinate_units(x, w),
+        y: coordinate_units(y, h),
+    }
+}
+
+// How far a coordinate is from m units.
+fn distance(c: u32, m: u64) -> u64
+    requires { ⌜ (c < 67108864) × (m ≤ 131072) ⌝ }
+    ensures { λ r. ⌜ (r ≡ from (unheld c) m) × (r < 67108864) ⌝ }
+{
+    numbers::apart(m + 33554432, c as u64)
+}
+
+// The root of the sum of two squares.
+fn hypotenuse(a: u64, b: u64) -> u64
+    requires { ⌜ (a < 67108864) × (b < 67108864) ⌝ }
+    ensures { λ r. ⌜ r ≡ rootOf 1 (squared a + squared b) ⌝ }
+{
+    root::root(a * a + b * b)
+}
+
+// The greater of two, or the lesser.
+fn choose(far: bool, a: u64, b: u64) -> u64
+    ensures { λ r. ⌜ r ≡ chosen far a b ⌝ }
+{
+    if far {
+        return if a <= b { b } else { a };
+    }
+    if a <= b { a } else { b }
+}
+
+// The distance of a coordinate to the farther, or the closer, of the two edges across its axis.
+fn edge(far: bool, c: u32, pixels: usize) -> u64
+    requires { ⌜ (c < 67108864) × (pixels ≤ 2048) ⌝ }
+    ensures { λ r. ⌜ (r ≡ chosen far (from (unheld c) 0) (from (unheld c) (64 * pixels))) × (r < 67108864) ⌝ }
+{
+    let near = distance(c, 0);
+    let other = distance(c, (64 * pixels) as u64);
+    choose(far, near, other)
+}
+
+fn side_radius(far: bool, c: HeldCenter, w: usize, h: usize) -> u64
+    requires { ⌜ Box w h × Near c ⌝ }
+    ensures { λ r. ⌜ r ≡ ofSides (chosen far) w h (centerIn c) ⌝ }
+{
+    choose(far, edge(far, c.x, w), edge(far, c.y, h))
+}
+
+fn corner_radius(far: bool, c: HeldCenter, w: usize, h: usize) -> u64
+    requires { ⌜ Box w h × Near c ⌝ }
+    ensures { λ r. ⌜ r ≡ rootOf 1 (ofCorners (chosen far) w h (centerIn c)) ⌝ }
+{
+    hypotenuse(edge(far, c.x, w), edge(far, c.y, h))
+}
+
+fn extent_radius(e: Extent, c: HeldCenter, w: usize, h: usize) -> u64
+    requires { ⌜ Box w h × Near c ⌝ }
+    ensures { λ r. ⌜ r ≡ radiusOf (Size.Extent e) w h (centerIn c) ⌝ }
+{
+    match e {
+        Extent::ClosestSide => side_radius(false, c, w, h),
+        Extent::ClosestCorner => corner_radius(false, c, w, h),
+        Extent::FarthestSide => side_radius(true, c, w, h),
+        Extent::FarthestCorner => corner_radius(true, c, w, h),
+    }
+}
+
+fn radius(s: Size, c: HeldCenter, w: usize, h: usize) -> u64
+    requires { ⌜ Box w h × Near c × (sizeIn s ≡ true) ⌝ }
+    ensures { λ r. ⌜ r ≡ radiusOf s w h (centerIn c) ⌝ }
+{
+    match s {
+        Size::Extent(e) => extent_radius(e, c, w, h),
+        Size::Length(t) => numbers::apart(numbers::length_units(t) as u64, 33554432),
+    }
+}
+
+fn circle_location(c: HeldCenter, i: usize, j: usize) -> u64
+    requires { ⌜ Near c × (i < 2048) × (j < 2048) ⌝ }
+    ensures { λ r. ⌜ r ≡ locationBy (circleRule (centerIn c)) i j ⌝ }
+{
+    let dx = distance(c.x, 64 * (i as u64) + 32);
+    let dy = distance(c.y, 64 * (j as u64) + 32);
+    hypotenuse(dx, dy)
+}
+
+// What the locations of a gradient's pixels are measured along or from.
+pub fn line_of(s: Shape, w: usize, h: usize) -> Line
+    requires { ⌜ Box w h × (shapeIn s ≡ true) ⌝ }
+    ensures { λ r. ⌜ IsLine r w h (ruleOf s w h) ⌝ }
+{
+    match s {
+        Shape::Linear(d) => Line::Straight(direction_vector(d, w, h)),
+        Shape::Circle(_, x, y) => Line::Circle(circle_center(x, y, w, h)),
+    }
+}
+
+// The length of a gradient's line, in units.
+pub fn line_length(s: Shape, w: usize, h: usize) -> u32
+    requires { ⌜ Box w h × (shapeIn s ≡ true) ⌝ }
+    ensures { λ r. ⌜ r ≡ lengthOf s w h ⌝ }
+{
+    match s {
+        Shape::Linear(d) => vector_length(direction_vector(d, w, h), w, h) as u32,
+        Shape::Circle(z, x, y) => radius(z, circle_center(x, y, w, h), w, h) as u32,
+    }
+}
+
+// The location of pixel (i, j), in units.
+pub fn location(l: Line, w: usize, h: usize, i: usize, j: usize) -> u64
+    requires { ⌜ Box w h × Sound l × (i < w) × (j < h) ⌝ }
+    ensures { λ r. ⌜ r ≡ locationBy (ruleIn l w h) i j ⌝ }
+{
+    match l {
+        Line::Straight(v) => vector_location(v, w, h, i, j),
+        Line::Circle(c) => circle_location(c, i, j),
+    }
+}

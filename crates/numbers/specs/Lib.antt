@@ -1,0 +1,5 @@
+pub mod Held
+pub mod Floor
+pub mod Units
+pub mod Fraction
+pub mod Worked
