@@ -158,7 +158,7 @@ fn angle_in(a: i32) -> bool
     m <= 3600000 && m % 250 == 0
 }
 
-fn position_in(p: Position) -> bool
+pub fn position_in(p: Position) -> bool
     ensures { λ r. ⌜ r ≡ positionIn p ⌝ }
 {
     match p {
@@ -196,7 +196,7 @@ fn size_in(s: Size) -> bool
     }
 }
 
-fn shape_in(s: Shape) -> bool
+pub fn shape_in(s: Shape) -> bool
     ensures { λ r. ⌜ r ≡ shapeIn s ⌝ }
 {
     match s {

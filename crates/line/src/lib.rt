@@ -163,14 +163,14 @@ fn weighted(a: u64, b: u64, v: HeldVector) -> u64
     a * x + b * y
 }
 
-// The greatest q whose square times the vector's norm is at most t squared.
-fn on_line(t: u64, v: HeldVector) -> u64
+// The greatest q whose square times the vector's norm is at most t squared. The guess changes only the time.
+fn on_line(t: u64, v: HeldVector, guess: u32) -> u64
     requires { ⌜ (t < 4294967296) × Bounded v ⌝ }
     ensures { λ r. ⌜ r ≡ rootOf (norm (vectorIn v)) (squared t) ⌝ }
 {
     let x = v.x as u64;
     let y = v.y as u64;
-    root::root(t * t / (x * x + y * y))
+    root::root_near(t * t / (x * x + y * y), guess)
 }
 
 fn vector_length(v: HeldVector, w: usize, h: usize) -> u64
@@ -178,7 +178,7 @@ fn vector_length(v: HeldVector, w: usize, h: usize) -> u64
     ensures { λ r. ⌜ r ≡ lineLength w h (vectorIn v) ⌝ }
 {
     let s = weighted(w as u64, h as u64, v);
-    on_line(64 * s, v)
+    on_line(64 * s, v, 0)
 }
 
 // Twice the distance of pixel i's middle from the side of the box that the direction starts at.
@@ -193,14 +193,14 @@ fn odd(i: usize, w: usize, back: bool) -> u64
     }
 }
 
-fn vector_location(v: HeldVector, w: usize, h: usize, i: usize, j: usize) -> u64
+fn vector_location(v: HeldVector, w: usize, h: usize, i: usize, j: usize, guess: u32) -> u64
     requires { ⌜ Box w h × Bounded v × (i < w) × (j < h) ⌝ }
     ensures { λ r. ⌜ r ≡ locationBy (lineRule w h (vectorIn v)) i j ⌝ }
 {
     let a = odd(i, w, v.left);
     let b = odd(j, h, v.up);
     let s = weighted(a, b, v);
-    on_line(32 * s, v)
+    on_line(32 * s, v, guess)
 }
 
 // A coordinate of a circle's center in units, held, in a box of so many pixels along its axis.
@@ -232,12 +232,12 @@ fn distance(c: u32, m: u64) -> u64
     numbers::apart(m + 33554432, c as u64)
 }
 
-// The root of the sum of two squares.
-fn hypotenuse(a: u64, b: u64) -> u64
+// The root of the sum of two squares. The guess changes only the time.
+fn hypotenuse(a: u64, b: u64, guess: u32) -> u64
     requires { ⌜ (a < 67108864) × (b < 67108864) ⌝ }
     ensures { λ r. ⌜ r ≡ rootOf 1 (squared a + squared b) ⌝ }
 {
-    root::root(a * a + b * b)
+    root::root_near(a * a + b * b, guess)
 }
 
 // The greater of two, or the lesser.
@@ -271,7 +271,7 @@ fn corner_radius(far: bool, c: HeldCenter, w: usize, h: usize) -> u64
     requires { ⌜ Box w h × Near c ⌝ }
     ensures { λ r. ⌜ r ≡ rootOf 1 (ofCorners (chosen far) w h (centerIn c)) ⌝ }
 {
-    hypotenuse(edge(far, c.x, w), edge(far, c.y, h))
+    hypotenuse(edge(far, c.x, w), edge(far, c.y, h), 0)
 }
 
 fn extent_radius(e: Extent, c: HeldCenter, w: usize, h: usize) -> u64
@@ -296,13 +296,13 @@ fn radius(s: Size, c: HeldCenter, w: usize, h: usize) -> u64
     }
 }
 
-fn circle_location(c: HeldCenter, i: usize, j: usize) -> u64
+fn circle_location(c: HeldCenter, i: usize, j: usize, guess: u32) -> u64
     requires { ⌜ Near c × (i < 2048) × (j < 2048) ⌝ }
     ensures { λ r. ⌜ r ≡ locationBy (circleRule (centerIn c)) i j ⌝ }
 {
     let dx = distance(c.x, 64 * (i as u64) + 32);
     let dy = distance(c.y, 64 * (j as u64) + 32);
-    hypotenuse(dx, dy)
+    hypotenuse(dx, dy, guess)
 }
 
 // What the locations of a gradient's pixels are measured along or from.
@@ -327,13 +327,13 @@ pub fn line_length(s: Shape, w: usize, h: usize) -> u32
     }
 }
 
-// The location of pixel (i, j), in units.
-pub fn location(l: Line, w: usize, h: usize, i: usize, j: usize) -> u64
+// The location of pixel (i, j), in units. A guess near it saves the search; whatever it is, the answer is the same.
+pub fn location(l: Line, w: usize, h: usize, i: usize, j: usize, guess: u32) -> u64
     requires { ⌜ Box w h × Sound l × (i < w) × (j < h) ⌝ }
     ensures { λ r. ⌜ r ≡ locationBy (ruleIn l w h) i j ⌝ }
 {
     match l {
-        Line::Straight(v) => vector_location(v, w, h, i, j),
-        Line::Circle(c) => circle_location(c, i, j),
+        Line::Straight(v) => vector_location(v, w, h, i, j, guess),
+        Line::Circle(c) => circle_location(c, i, j, guess),
     }
 }

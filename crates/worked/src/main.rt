@@ -41,7 +41,7 @@ fn say_location(label: &[u8], s: Shape, w: usize, h: usize, i: usize, j: usize)
     requires { ⌜ Box w h × (shapeIn s ≡ true) × (i < w) × (j < h) ⌝ }
 {
     let l = line::line_of(s, w, h);
-    say(label, line::location(l, w, h, i, j));
+    say(label, line::location(l, w, h, i, j, 0));
 }
 
 fn corner() -> Shape

@@ -16,46 +16,46 @@ cast-x c = search needs
 cast-y : tie.Need-cast-y
 cast-y c = search needs
 
-mul-root : tie.Need-mul-root
-mul-root c =
+mul-root-near : tie.Need-mul-root-near
+mul-root-near c =
     let g = c .before .before in
     let h : g .args .t ≤ 4294967295 = omega arith in
     omega (arith, mul-le-mul h h)
 
-mul-root-2 : tie.Need-mul-root-2
-mul-root-2 c =
+mul-root-near-2 : tie.Need-mul-root-near-2
+mul-root-near-2 c =
     let g = c .before .before in
     let h : g .args .v .x ≤ 32767 = omega (arith, g .pre .1 .sum) in
     omega (arith, mul-le-mul h h)
 
-mul-root-3 : tie.Need-mul-root-3
-mul-root-3 c =
+mul-root-near-3 : tie.Need-mul-root-near-3
+mul-root-near-3 c =
     let g = c .before .before in
     let h : g .args .v .y ≤ 32767 = omega (arith, g .pre .1 .sum) in
     omega (arith, mul-le-mul h h)
 
-add-root : tie.Need-add-root
-add-root c =
+add-root-near : tie.Need-add-root-near
+add-root-near c =
     let g = c .before .before in
     let h : g .args .v .x ≤ 32767 = omega (arith, g .pre .1 .sum) in
     let k : g .args .v .y ≤ 32767 = omega (arith, g .pre .1 .sum) in
     omega (arith, mul-le-mul h h, mul-le-mul k k)
 
-div-root : tie.Need-div-root
-div-root c = norm-some _ _ (c .before .before .pre .1 .some)
+div-root-near : tie.Need-div-root-near
+div-root-near c = norm-some _ _ (c .before .before .pre .1 .some)
 
-root-requires : tie.Need-root-requires
-root-requires c κs = search needs
+root-near-requires : tie.Need-root-near-requires
+root-near-requires c κs = search needs
 
 returns : tie.Need-returns
 returns c =
     let g = c .before .before .before in
     let v = g .args .v in
-    c .root .ensures
+    c .root-near .ensures
     ∙ root-div (v .x * v .x + v .y * v .y) (g .args .t * g .args .t) (norm-some _ _ (g .pre .1 .some))
     ∙ ap (λ (n : ℕ). rootOf n (g .args .t * g .args .t)) (sym (norm-is (v .left) (v .up) (v .x) (v .y)))
 
 pub on-line-spec : {M : Type 1} → statement M
 on-line-spec =
     tie.close
-    (tie.spec cast-x cast-y mul-root mul-root-2 mul-root-3 add-root div-root root-requires returns)
+    (tie.spec cast-x cast-y mul-root-near mul-root-near-2 mul-root-near-3 add-root-near div-root-near root-near-requires returns)
