@@ -5,15 +5,15 @@ use mathlib.Core.Bool.{true, false, true≢false}
 use Prim.Native.Nat.{ℕ, suc, _+_, _-_, _^_, _≤_, _<_}
 use native.Mathlib.Omega.{arith}
 use lib.Dec.{T, ltb}
-use lib.IntN.{ℤ, pos, negsuc, natAbs, _+ℤ_}
+use lib.IntN.{ℤ, pos, negsuc, natAbs, _+ℤ_, _-ℤ_}
 use lib.Signed.{ltZ, nonNeg}
 use mir.Syntax.{w32}
 use mir.Val.{Fits, SFits, ofZ, toZ}
 use mir.ValLaws.{toZ-pos, toZ-ofZ}
 use borrow.Author.Tests.{ltb-true}
-use Rattle.numbers.specs.Held.{offset, held}
+use Rattle.numbers.specs.Held.{offset, held, unheld}
 use Rattle.numbers.specs.Fraction.{distance}
-use Rattle.numbers.proofs.Integers.{at-pos, hold-near}
+use Rattle.numbers.proofs.Integers.{at-pos, diff-of, diff-abs, hold-near}
 
 -- what a cast of the signed number with bits x to an unsigned one asks, and that it gives x
 pub record Casts (x : ℕ) : Type 0 where
@@ -73,3 +73,17 @@ module _ (z : ℤ) (h : natAbs z ≤ offset) where
 
   pub raised-same : toZ w32 (ofZ w32 (z +ℤ pos offset)) ≡ pos (held z)
   raised-same = toZ-ofZ w32 (z +ℤ pos offset) raised-fits ∙ raised
+
+-- a held number, and the one that it stands for
+module _ (u : ℕ) (h : u ≤ offset + offset) where
+  pub unheld-small : natAbs (unheld u) ≤ offset
+  unheld-small = rw (diff-abs u offset) (omega arith)
+
+  lowered : toZ w32 u -ℤ pos offset ≡ unheld u
+  lowered = ap (λ (z : ℤ). z -ℤ pos offset) (toZ-pos w32 u (omega arith)) ∙ diff-of u offset
+
+  pub lowered-fits : SFits w32 (toZ w32 u -ℤ pos offset)
+  lowered-fits = rw lowered (small-fits (unheld u) unheld-small)
+
+  pub lowered-same : toZ w32 (ofZ w32 (toZ w32 u -ℤ pos offset)) ≡ unheld u
+  lowered-same = toZ-ofZ w32 (toZ w32 u -ℤ pos offset) lowered-fits ∙ lowered

@@ -20,6 +20,14 @@ pub fn hold(v: i32) -> u32
     (v + 33554432) as u32
 }
 
+// The number that a held one stands for.
+pub fn release(u: u32) -> i32
+    requires { ⌜ u ≤ 67108864 ⌝ }
+    ensures { λ r. ⌜ r ≡ unheld u ⌝ }
+{
+    (u as i32) - 33554432
+}
+
 // How far two numbers are apart.
 pub fn apart(a: u64, b: u64) -> u64
     ensures { λ r. ⌜ r ≡ natAbs (pos a -ℤ pos b) ⌝ }

@@ -1,0 +1,4 @@
+pub mod Position
+pub mod Circle
+pub mod View
+pub mod Worked

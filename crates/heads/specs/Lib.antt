@@ -1,0 +1,3 @@
+pub mod Direction
+pub mod View
+pub mod Worked

@@ -1,0 +1,4 @@
+pub mod Closing
+pub mod Items
+pub mod Cut
+pub mod Accepted

@@ -1,0 +1,247 @@
+// From the text of a gradient to its value.
+use circles::ShapeRead;
+use gradient::Direction;
+use gradient::Gradient;
+use gradient::Shape;
+use gradient::Side;
+use heads::DirectionRead;
+use stoplist::Listing;
+use stoplist::StopList;
+use text::Cursor;
+use text::Match;
+ghost use mathlib.Core.Path.{_≡_};
+ghost use lib.ListN.{drop};
+ghost use Rattle.text.specs.Text.{wholeOf};
+ghost use Rattle.tokens.specs.Number.{cut};
+ghost use Rattle.gradient.specs.Blank.{blankGradient};
+ghost use Rattle.heads.specs.Direction.{directionOf};
+ghost use Rattle.circles.specs.Circle.{radialOf};
+ghost use Rattle.heads.specs.View.{viewDirection};
+ghost use Rattle.circles.specs.View.{viewShape};
+ghost use Rattle.reader.specs.Text.{linearOf, circularOf, ofKind, closesOf, kindOf, functionOf};
+ghost use Rattle.reader.specs.Reading.{answered, readOf};
+ghost use Rattle.reader.specs.View.{viewKind, CloseAt, noDraft, draftOf, drafted, draftReply, concluded};
+
+// The reply to a text, and the gradient where it is 0.
+pub struct Reading {
+    pub reply: u32,
+    pub gradient: Gradient,
+}
+
+// A gradient as it is written, or none where `found` is false. (An enum cannot hold the array.)
+pub struct Draft {
+    pub found: bool,
+    pub shape: Shape,
+    pub list: StopList,
+}
+
+pub enum Kind {
+    Linear,
+    Radial,
+}
+
+pub enum KindRead {
+    Got(Kind, Cursor),
+    Refused,
+}
+
+// Where the closing bracket stands.
+pub enum CloseRead {
+    At(usize),
+    Missing,
+}
+
+// ---- what stands before the stops, as a whole item
+
+fn whole_direction(item: &[u8]) -> DirectionRead
+    ensures { λ r. ⌜ viewDirection (now (item .entry)) r ≡ wholeOf (directionOf cut) (now (item .entry)) ⌝ }
+{
+    let start = text::skip_space(item, Cursor { at: 0 });
+    let DirectionRead::Got(d, e) = heads::read_direction(item, start) else {
+        return DirectionRead::Refused;
+    };
+    let k = text::skip_space(item, e);
+    if !text::is_end(item, k) {
+        return DirectionRead::Refused;
+    }
+    DirectionRead::Got(d, k)
+}
+
+fn whole_radial(item: &[u8]) -> ShapeRead
+    ensures { λ r. ⌜ viewShape (now (item .entry)) r ≡ wholeOf (radialOf cut) (now (item .entry)) ⌝ }
+{
+    let start = text::skip_space(item, Cursor { at: 0 });
+    let ShapeRead::Got(shape, e) = circles::read_radial(item, start) else {
+        return ShapeRead::Refused;
+    };
+    let k = text::skip_space(item, e);
+    if !text::is_end(item, k) {
+        return ShapeRead::Refused;
+    }
+    ShapeRead::Got(shape, k)
+}
+
+// ---- what stands between the brackets
+
+fn no_draft() -> Draft
+    ensures { λ r. ⌜ r ≡ noDraft ⌝ }
+{
+    let list = stoplist::blank_list();
+    Draft {
+        found: false,
+        shape: Shape::Linear(Direction::Side(Side::Top)),
+        list: list,
+    }
+}
+
+fn with_stops(shape: Shape, l: Listing) -> Draft
+    ensures { λ r. ⌜ r ≡ drafted shape l ⌝ }
+{
+    if !l.found {
+        return no_draft();
+    }
+    let list = l.list;
+    Draft {
+        found: true,
+        shape: shape,
+        list: list,
+    }
+}
+
+fn read_linear(s: &[u8]) -> Draft
+    ensures { λ r. ⌜ r ≡ draftOf (linearOf cut (now (s .entry))) ⌝ }
+{
+    let from = 0;
+    let end = stoplist::find_comma(s, from);
+    if let DirectionRead::Got(d, _) = whole_direction(&s[from..end]) {
+        let l = stoplist::read_stops(s, end + 1);
+        return with_stops(Shape::Linear(d), l);
+    }
+    let l = stoplist::read_stops(s, from);
+    with_stops(Shape::Linear(Direction::Side(Side::Bottom)), l)
+}
+
+fn read_circular(s: &[u8]) -> Draft
+    ensures { λ r. ⌜ r ≡ draftOf (circularOf cut (now (s .entry))) ⌝ }
+{
+    let from = 0;
+    let end = stoplist::find_comma(s, from);
+    let ShapeRead::Got(shape, _) = whole_radial(&s[from..end]) else {
+        return no_draft();
+    };
+    let l = stoplist::read_stops(s, end + 1);
+    with_stops(shape, l)
+}
+
+fn read_body(k: Kind, s: &[u8]) -> Draft
+    ensures { λ r. ⌜ r ≡ draftOf (ofKind cut k (now (s .entry))) ⌝ }
+{
+    match k {
+        Kind::Linear => read_linear(s),
+        Kind::Radial => read_circular(s),
+    }
+}
+
+// ---- the whole text
+
+// Whether the closing bracket stands at the cursor: `)` with only white space after it.
+fn closes(s: &[u8], c: Cursor) -> bool
+    ensures { λ r. ⌜ r ≡ closesOf (drop (c .at) (now (s .entry))) ⌝ }
+{
+    text::peek(s, c) == b')' && text::is_end(s, text::skip_space(s, text::step(s, c)))
+}
+
+fn find_close(s: &[u8], from: usize) -> CloseRead
+    ensures { λ r. ⌜ CloseAt (now (s .entry)) from r ⌝ }
+{
+    let mut i = from;
+    while i < s.len() {
+        if closes(s, Cursor { at: i }) {
+            return CloseRead::At(i);
+        }
+        i += 1;
+    }
+    CloseRead::Missing
+}
+
+fn read_kind(s: &[u8], c: Cursor) -> KindRead
+    ensures { λ r. ⌜ viewKind (now (s .entry)) r ≡ kindOf (drop (c .at) (now (s .entry))) ⌝ }
+{
+    if let Match::Past(k) = text::keyword(s, c, b"linear-gradient(") {
+        return KindRead::Got(Kind::Linear, k);
+    }
+    if let Match::Past(k) = text::keyword(s, c, b"radial-gradient(") {
+        return KindRead::Got(Kind::Radial, k);
+    }
+    KindRead::Refused
+}
+
+fn read_function(s: &[u8], c: Cursor) -> Draft
+    ensures { λ r. ⌜ r ≡ draftOf (functionOf cut (drop (c .at) (now (s .entry)))) ⌝ }
+{
+    let KindRead::Got(kind, k) = read_kind(s, c) else {
+        return no_draft();
+    };
+    let from = k.at;
+    let CloseRead::At(end) = find_close(s, from) else {
+        return no_draft();
+    };
+    read_body(kind, &s[from..end])
+}
+
+fn draft_reply(d: Draft) -> u32
+    ensures { λ r. ⌜ r ≡ draftReply d ⌝ }
+{
+    if !d.found {
+        return 4;
+    }
+    let shape = d.shape;
+    let list = d.list;
+    if !gradient::shape_in(shape) {
+        return 5;
+    }
+    if list.wide {
+        return 5;
+    }
+    if 16 < list.count { 6 } else { 0 }
+}
+
+fn refuse(reply: u32) -> Reading
+    ensures { λ r. ⌜ r ≡ record { reply = reply; gradient = blankGradient } ⌝ }
+{
+    let g = gradient::blank_gradient();
+    Reading {
+        reply: reply,
+        gradient: g,
+    }
+}
+
+fn conclude(d: Draft) -> Reading
+    ensures { λ r. ⌜ r ≡ concluded d ⌝ }
+{
+    let reply = draft_reply(d);
+    if reply != 0 {
+        return refuse(reply);
+    }
+    let shape = d.shape;
+    let list = d.list;
+    let stops = list.stops;
+    Reading {
+        reply: 0,
+        gradient: Gradient {
+            shape: shape,
+            count: list.count,
+            stops: stops,
+        },
+    }
+}
+
+// Reads a gradient. Any bytes are taken, of any length.
+pub fn read(s: &[u8]) -> Reading
+    ensures { λ r. ⌜ r ≡ readOf (now (s .entry)) ⌝ }
+{
+    if 1024 < s.len() {
+        return refuse(3);
+    }
+    conclude(read_function(s, text::skip_space(s, Cursor { at: 0 })))
+}

@@ -1,0 +1,188 @@
+// Color stops of the text, and lists of them.
+use gradient::Position;
+use gradient::Stop;
+use text::Cursor;
+use text::Match;
+use tokens::ColorRead;
+use tokens::NumberRead;
+use tokens::Unit;
+ghost use mathlib.Core.Path.{_≡_};
+ghost use Prim.Native.Nat.{_≤_};
+ghost use lib.ListN.{length, drop};
+ghost use Rattle.text.specs.Text.{afterGap, wholeOf};
+ghost use Rattle.tokens.specs.Number.{cut};
+ghost use Rattle.stoplist.specs.Stops.{positionOf, stopOf, twoStopsOf};
+ghost use Rattle.stoplist.specs.View.{viewPosition, viewStop, blankList, added, noListing, listingOf, itemsFrom, CommaAt};
+
+pub enum PositionRead {
+    Got(Position, Cursor),
+    Refused,
+}
+
+pub enum StopRead {
+    Got(Stop, Cursor),
+    Refused,
+}
+
+// The first 16 stops of a list, how many it has (17 where it has more than 16), and whether a number of it is out of its range.
+pub struct StopList {
+    pub stops: [Stop; 16],
+    pub count: u32,
+    pub wide: bool,
+}
+
+// A list of two stops or more, or none where `found` is false. (An enum cannot hold the array.)
+pub struct Listing {
+    pub found: bool,
+    pub list: StopList,
+}
+
+// ---- one stop
+
+fn read_position(s: &[u8], c: Cursor) -> PositionRead
+    ensures { λ r. ⌜ viewPosition (now (s .entry)) r ≡ positionOf cut (drop (c .at) (now (s .entry))) ⌝ }
+{
+    let NumberRead::Got(n, e) = tokens::read_number(s, c) else {
+        return PositionRead::Refused;
+    };
+    let u = n.unit;
+    match u {
+        Unit::Length => PositionRead::Got(Position::Length(n.value), e),
+        Unit::Percentage => PositionRead::Got(Position::Percentage(n.value), e),
+        Unit::Angle => PositionRead::Refused,
+    }
+}
+
+// White space and a position, after a color.
+fn second_position(s: &[u8], c: Cursor) -> PositionRead
+    ensures { λ r. ⌜ viewPosition (now (s .entry)) r ≡ afterGap (positionOf cut) (drop (c .at) (now (s .entry))) ⌝ }
+{
+    let Match::Past(k) = text::gap(s, c) else {
+        return PositionRead::Refused;
+    };
+    read_position(s, k)
+}
+
+fn read_stop(s: &[u8], c: Cursor) -> StopRead
+    ensures { λ r. ⌜ viewStop (now (s .entry)) r ≡ stopOf cut (drop (c .at) (now (s .entry))) ⌝ }
+{
+    let ColorRead::Got(v, k) = tokens::read_color(s, c) else {
+        return StopRead::Refused;
+    };
+    if let PositionRead::Got(p, e) = second_position(s, k) {
+        return StopRead::Got(
+            Stop {
+                color: v,
+                position: p,
+            },
+            e,
+        );
+    }
+    StopRead::Got(
+        Stop {
+            color: v,
+            position: Position::Auto,
+        },
+        k,
+    )
+}
+
+// ---- whole items: white space may stand around what is read, and nothing else
+
+fn whole_stop(item: &[u8]) -> StopRead
+    ensures { λ r. ⌜ viewStop (now (item .entry)) r ≡ wholeOf (stopOf cut) (now (item .entry)) ⌝ }
+{
+    let StopRead::Got(stop, e) = read_stop(item, text::skip_space(item, Cursor { at: 0 })) else {
+        return StopRead::Refused;
+    };
+    let k = text::skip_space(item, e);
+    if !text::is_end(item, k) {
+        return StopRead::Refused;
+    }
+    StopRead::Got(stop, k)
+}
+
+// ---- lists
+
+pub fn blank_list() -> StopList
+    ensures { λ r. ⌜ r ≡ blankList ⌝ }
+{
+    let stops = [gradient::blank_stop(); 16];
+    StopList {
+        stops: stops,
+        count: 0,
+        wide: false,
+    }
+}
+
+fn no_listing() -> Listing
+    ensures { λ r. ⌜ r ≡ noListing ⌝ }
+{
+    let list = blank_list();
+    Listing {
+        found: false,
+        list: list,
+    }
+}
+
+// A list with one stop more. Past the sixteenth only the count and the range are noted.
+pub fn add_stop(t: StopList, s: Stop) -> StopList
+    ensures { λ r. ⌜ r ≡ added t s ⌝ }
+{
+    let p = s.position;
+    let wide = t.wide || !gradient::position_in(p);
+    let n = t.count;
+    let mut stops = t.stops;
+    if n < 16 {
+        let i = n as usize;
+        stops[i] = s;
+        return StopList {
+            stops: stops,
+            count: n + 1,
+            wide: wide,
+        };
+    }
+    StopList {
+        stops: stops,
+        count: 17,
+        wide: wide,
+    }
+}
+
+// The first comma at or after a place, or the end.
+pub fn find_comma(s: &[u8], at: usize) -> usize
+    requires { ⌜ at ≤ length (now s) ⌝ }
+    ensures { λ r. ⌜ CommaAt (now (s .entry)) at r ⌝ }
+{
+    let mut i = at;
+    while i < s.len() {
+        if s[i] == b',' {
+            return i;
+        }
+        i += 1;
+    }
+    i
+}
+
+// The items from a place on as stops.
+pub fn read_stops(s: &[u8], from: usize) -> Listing
+    ensures { λ r. ⌜ r ≡ listingOf (twoStopsOf cut (itemsFrom (now (s .entry)) from)) ⌝ }
+{
+    let mut list = blank_list();
+    let mut at = from;
+    while at <= s.len() {
+        let end = find_comma(s, at);
+        let StopRead::Got(stop, _) = whole_stop(&s[at..end]) else {
+            return no_listing();
+        };
+        list = add_stop(list, stop);
+        at = end + 1;
+    }
+    if list.count < 2 {
+        return no_listing();
+    }
+    Listing {
+        found: true,
+        list: list,
+    }
+}

@@ -1,0 +1,4 @@
+pub mod Number
+pub mod Color
+pub mod View
+pub mod Worked
