@@ -6,7 +6,7 @@ use native.Mathlib.Nat.{mul-le-mul, mul-le-mul-right, lt-of-le-of-lt}
 use native.Mathlib.Decide.{decLe}
 use native.Mathlib.Omega.{arith}
 use lib.IntN.{ℤ, pos, negsuc, natAbs, negℤ, negℤ-negℤ, _*ℤ_}
-use Rattle.numbers.specs.Held.{offset, held}
+use Rattle.numbers.specs.Held.{offset, held, unheld}
 use Rattle.numbers.proofs.Integers.{diff-of, diff-abs, hold-is}
 use Rattle.numbers.proofs.Signed.{held-high}
 use Rattle.numbers.proofs.Units.{length-bound, percentage-bound}
@@ -32,10 +32,15 @@ use Rattle.line.specs.Vector.{Vector, vector, inQuadrant, sineZ, quarter
 use Rattle.line.specs.Location.{locationBy, squared, norm, reach, lineLength, along, lineRule}
 use Rattle.line.specs.Circle.{Center, coordinateUnits, centerOf, from, toCorner, ofCorners, radiusOf, circleRule}
 use Rattle.line.specs.Line.{lengthOf, ruleOf}
-use Rattle.line.specs.Held.{signed, isLeft, isTop, oddOf}
+use Rattle.line.specs.declared.HeldVector.{HeldVector}
+use Rattle.line.specs.declared.HeldCenter.{HeldCenter}
+use Rattle.line.specs.declared.Line.{Line}
+use Rattle.line.specs.declared.Line.the-variants as L
+use Rattle.line.specs.Held.{signed, isLeft, isTop, oddOf, vectorIn, Bounded, centerIn, Near, Sound, ruleIn}
 use Rattle.line.specs.Bounds.{longest, Bounds}
 use Rattle.line.proofs.Vectors.{abs-signed, isNegative, as-signed, across-is, down-is}
-use Rattle.line.proofs.Lines.{norm-some, square-is, odd-below}
+use Rattle.line.proofs.Lines.{norm-is, norm-some, square-is, odd-below}
+use Rattle.line.proofs.Circles.{from-below}
 
 -- ---- no direction's vector is 0
 minus-minus : (n : ℕ) → natAbs (negℤ (negℤ (pos n))) ≡ n
@@ -90,17 +95,6 @@ product-le w h a b = omega (arith, twice-le (w * b) (h * a))
 below-diagonal : (s n k : ℕ) → 0 < n → s * s ≤ k * n → k ≤ 8388608 → 64 * s * (64 * s) < 185364 * 185364 * n
 below-diagonal s n k p h l = omega (arith, mul-le-mul-right n l)
 
-reach-below : (d : Direction) (w h : ℕ) → Box w h → squared (64 * reach w h (vectorOf d w h)) < 185364 * 185364 * norm (vectorOf d w h)
-unfolding norm
-reach-below d w h b =
-    below-diagonal (reach w h (vectorOf d w h)) (norm (vectorOf d w h)) (w * w + h * h) (some-norm d w h b)
-    (product-le w h (natAbs (vectorOf d w h .x)) (natAbs (vectorOf d w h .y)))
-    (omega (arith, mul-le-mul (b .width) (b .width), mul-le-mul (b .height) (b .height)))
-
-line-length-le : (d : Direction) (w h : ℕ) → Box w h → lineLength w h (vectorOf d w h) ≤ 185363
-unfolding lineLength
-line-length-le d w h b = root-most (norm (vectorOf d w h)) (squared (64 * reach w h (vectorOf d w h))) 185363 (some-norm d w h b) (reach-below d w h b)
-
 -- twice the reach covers every pixel of the box
 square-le : (v : Vector) (w h i j : ℕ) → i < w → j < h → squared (natAbs (pos 32 *ℤ along w h v i j)) ≤ squared (64 * reach w h v)
 square-le v w h i j p q =
@@ -119,11 +113,21 @@ square-le v w h i j p q =
         let q′ : n ≤ 2 * h = omega arith in
         omega (arith, mul-le-mul-right a p′, mul-le-mul-right b q′)
 
-line-location-le : (d : Direction) (w h i j : ℕ) → Box w h → i < w → j < h → locationBy (lineRule w h (vectorOf d w h)) i j ≤ 185363
-unfolding locationBy
-line-location-le d w h i j b p q =
-    root-most (norm (vectorOf d w h)) (squared (natAbs (pos 32 *ℤ along w h (vectorOf d w h) i j))) 185363 (some-norm d w h b)
-    (lt-of-le-of-lt (square-le (vectorOf d w h) w h i j p q) (reach-below d w h b))
+module _ (v : Vector) (w h : ℕ) (b : Box w h) (p : 0 < norm v) where
+  reach-below : squared (64 * reach w h v) < 185364 * 185364 * norm v
+  unfolding norm
+  reach-below =
+      below-diagonal (reach w h v) (norm v) (w * w + h * h) p (product-le w h (natAbs (v .x)) (natAbs (v .y)))
+      (omega (arith, mul-le-mul (b .width) (b .width), mul-le-mul (b .height) (b .height)))
+
+  line-length-le : lineLength w h v ≤ 185363
+  unfolding lineLength
+  line-length-le = root-most (norm v) (squared (64 * reach w h v)) 185363 p reach-below
+
+  line-location-le : (i j : ℕ) → i < w → j < h → locationBy (lineRule w h v) i j ≤ 185363
+  unfolding locationBy
+  line-location-le i j hi hj =
+      root-most (norm v) (squared (natAbs (pos 32 *ℤ along w h v i j))) 185363 p (lt-of-le-of-lt (square-le v w h i j hi hj) reach-below)
 
 -- ---- a circle's center is at most 1,000% of the largest box from 0
 from-le : (c : ℤ) (m : ℕ) → from c m ≤ natAbs c + m
@@ -177,14 +181,14 @@ some-scale (Sh.Circle s x y) w h b = omega arith
 
 length-le : (s : Shape) (w h : ℕ) → Box w h → shapeIn s ≡ true → lengthOf s w h ≤ longest
 unfolding lengthOf
-length-le (Sh.Linear d) w h b e = omega (arith, line-length-le d w h b)
+length-le (Sh.Linear d) w h b e = omega (arith, line-length-le (vectorOf d w h) w h b (some-norm d w h b))
 length-le (Sh.Circle s x y) w h b e =
     let p = circle-range s x y e in
     radius-le s w h (centerOf x y w h) b (around x y w h b (p .1) (p .2)) (p .0)
 
 location-le : (s : Shape) (w h i j : ℕ) → Box w h → shapeIn s ≡ true → i < w → j < h → locationBy (ruleOf s w h) i j ≤ longest
 unfolding ruleOf
-location-le (Sh.Linear d) w h i j b e p q = omega (arith, line-location-le d w h i j b p q)
+location-le (Sh.Linear d) w h i j b e p q = omega (arith, line-location-le (vectorOf d w h) w h b (some-norm d w h b) i j p q)
 location-le (Sh.Circle s x y) w h i j b e p q =
     let r = circle-range s x y e in
     circle-location-le (centerOf x y w h) w h i j b (around x y w h b (r .1) (r .2)) p q
@@ -205,3 +209,25 @@ bounds = record {
 pub location-is : (s : Shape) (w h i j : ℕ) → Box w h → IsRoot (ruleOf s w h .scale) (ruleOf s w h .square i j) (locationBy (ruleOf s w h) i j)
 unfolding locationBy
 location-is s w h i j b = root-is (ruleOf s w h .scale) (ruleOf s w h .square i j) (some-scale s w h b)
+
+-- ---- lines as the code holds them
+held-norm : (v : HeldVector) → Bounded v → 0 < norm (vectorIn v)
+held-norm v b = rw (norm-is (v .left) (v .up) (v .x) (v .y)) (norm-some (v .x) (v .y) (b .some))
+
+held-corner : (c : HeldCenter) → Near c → (m n : ℕ) → m ≤ 131072 → n ≤ 131072 → toCorner (centerIn c) m n < 9007199254740992
+held-corner c near m n p q =
+    let f : from (unheld (c .x)) m ≤ 67108863 = omega (arith, from-below (c .x) m (near .x) p) in
+    let g : from (unheld (c .y)) n ≤ 67108863 = omega (arith, from-below (c .y) n (near .y) q) in
+    omega (arith, mul-le-mul f f, mul-le-mul g g)
+
+-- the rule of a held line has a scale that is not 0, and its locations are small enough to be held
+pub sound-scale : (l : Line) (w h : ℕ) → Sound l → 0 < ruleIn l w h .scale
+sound-scale (L.Straight v) w h b = held-norm v b
+sound-scale (L.Circle c) w h b = omega arith
+
+pub sound-location : (l : Line) (w h i j : ℕ) → Sound l → Box w h → i < w → j < h → locationBy (ruleIn l w h) i j ≤ 94906265
+unfolding locationBy
+sound-location (L.Straight v) w h i j b box p q = omega (arith, line-location-le (vectorIn v) w h box (held-norm v b) i j p q)
+sound-location (L.Circle c) w h i j near box p q =
+    root-most 1 (toCorner (centerIn c) (64 * i + 32) (64 * j + 32)) 94906265 (omega arith)
+    (omega (arith, held-corner c near (64 * i + 32) (64 * j + 32) (omega (arith, box .width)) (omega (arith, box .height))))

@@ -1,0 +1,86 @@
+// Draws the charts of document 01 from their text, and texts and buffers that are refused; prints for each the reply and every byte of the buffer,
+// which holds 1 in every byte before. tests/drawing/independent.py finds the same lines from the rules alone.
+use libc::STDOUT_FILENO;
+ghost use Prim.Native.Nat.{_≤_};
+
+fn say(s: &[u8]) {
+    io::write_all(STDOUT_FILENO, s);
+}
+
+fn say_byte(b: u8) {
+    say(b" ");
+    io::print_decimal(STDOUT_FILENO, b as u64);
+}
+
+fn say_bytes(s: &[u8]) {
+    let mut i = 0;
+    while i < s.len() {
+        say_byte(s[i]);
+        i += 1;
+    }
+    say(b"\n");
+}
+
+// Draws a text in a box of w by h pixels into a buffer, and prints what is left there.
+fn show(s: &[u8], w: usize, h: usize, buf: &mut [u8]) {
+    io::print_decimal(STDOUT_FILENO, w as u64);
+    say(b"x");
+    io::print_decimal(STDOUT_FILENO, h as u64);
+    say(b" in ");
+    io::print_decimal(STDOUT_FILENO, buf.len() as u64);
+    say(b" ");
+    say(s);
+    say(b"\n");
+    let r = whole::draw_text(s, w, h, buf);
+    io::print_decimal(STDOUT_FILENO, r as u64);
+    say(b":");
+    say_bytes(buf);
+}
+
+// The same with a buffer of n bytes.
+fn draw(s: &[u8], w: usize, h: usize, n: usize)
+    requires { ⌜ n ≤ 64 ⌝ }
+{
+    let mut buf: [u8; 64] = [1; 64];
+    show(s, w, h, &mut buf[..n]);
+}
+
+fn draw_accepted() {
+    draw(b"linear-gradient(to right, black, white)", 4, 1, 20);
+    draw(b"linear-gradient(to right, red, transparent)", 2, 1, 8);
+    draw(b"linear-gradient(to top right, black, white)", 3, 4, 50);
+    draw(b"linear-gradient(red 40%, white, black, blue)", 1, 16, 64);
+    draw(b"linear-gradient(to left, red -50%, white, blue)", 5, 3, 60);
+    draw(
+        b"linear-gradient(200.25deg, red 2px, white 0px, #00f8 4px)",
+        4,
+        4,
+        64,
+    );
+    draw(
+        b"radial-gradient(circle at 0.5px 0.5px, red -50px, yellow 100px)",
+        1,
+        1,
+        4,
+    );
+    draw(
+        b"radial-gradient(circle closest-side at 30% 40%, red, lime 1px, blue 1px, #1234)",
+        4,
+        4,
+        64,
+    );
+}
+
+fn draw_refused() {
+    draw(b"linear-gradient(red, blue)", 0, 1, 8);
+    draw(b"linear-gradient(red, blue)", 1, 2049, 8);
+    draw(b"linear-gradient(red, blue)", 2, 2, 15);
+    draw(b"linear-gradient(red, blue)", 1, 1, 0);
+    draw(b"linear-gradient(red, blue", 1, 1, 6);
+    draw(b"linear-gradient(45.1deg, red, blue)", 1, 1, 6);
+}
+
+fn main() {
+    draw_accepted();
+    draw_refused();
+}

@@ -1,0 +1,7 @@
+pub mod Mix
+pub mod Place
+pub mod Gap
+pub mod Accuracy
+pub mod Lent
+pub mod Arrays
+pub mod Types

@@ -1,0 +1,81 @@
+-- `color::values_of` meets its contract. The invariant: the first 4 i places have the values of the first i stops. Assumes nothing.
+use mathlib.Core.Path.{_≡_, refl}
+use Prim.Native.Nat.{_≤_, _-_, _*_}
+use native.Mathlib.Omega.{arith}
+use lib.ListN.{length, take}
+use lib.Seq.{length-take-le}
+use borrow.Author.Needs.{needs}
+use Rattle.gradient.proofs.Lists.{unmapped}
+use Rattle.color.specs.Arrays.{valuesOf}
+use Rattle.color.specs.Lent.{Small}
+use Rattle.color.proofs.Arrays.{values-more, small-zeros}
+use Rattle.color.proofs.Types.{placed-bytes}
+use Rattle.color.proofs.values_of.Statement.{statement}
+use Rattle.color.proofs.values_of.Tie as tie
+
+abbrev Inv-loop : tie.InvT-loop
+Inv-loop p n values₀ i₀ values i = (i ≤ n) × (take (4 * i) values ≡ valuesOf (take i (p .stops))) × Small values
+
+abbrev μ-loop : tie.MeasureT-loop
+μ-loop p n values₀ i₀ values i = n - i
+
+sixteen : (c : tie.Start Inv-loop μ-loop) → length (c .args .t1 .stops) ≡ 16
+sixteen c = search (unmapped, needs)
+
+cast-n : tie.Need-cast-n Inv-loop μ-loop
+cast-n c = search needs
+
+loop-holds : tie.Need-loop-holds Inv-loop μ-loop
+unfolding valuesOf
+loop-holds c = (search needs, refl, small-zeros 64)
+
+mul-s : tie.Need-mul-s Inv-loop μ-loop
+mul-s c = search needs
+
+element-copy-out-s : tie.Need-element-copy-out-s Inv-loop μ-loop
+element-copy-out-s c = search needs
+
+store-requires : tie.Need-store-requires Inv-loop μ-loop
+store-requires c κs = (search needs, c .before .before .loop .inv .2)
+
+add-i : tie.Need-add-i Inv-loop μ-loop
+add-i c = search needs
+
+loop-less : tie.Need-loop-less Inv-loop μ-loop
+loop-less c = search needs
+
+loop-again : tie.Need-loop-again Inv-loop μ-loop
+loop-again c =
+    let s = c .before .before .before .before in
+    let l = c .before .before .before .loop in
+    let n = sixteen s in
+    (search needs, values-more (s .args .t1 .stops) (l .i) (l .values) _ (omega arith) (l .inv .1) (c .store .ensures .0), c .store .ensures .1)
+
+returns : tie.Need-returns Inv-loop μ-loop
+returns c =
+    let s = c .before .before in
+    let l = c .before .loop in
+    let n = sixteen s in
+    let e : s .args .t1 .count ≡ l .i = omega arith in
+    record {
+      values = rw e (l .inv .1);
+      small = l .inv .2;
+      many = length-take-le (s .args .t1 .count) (s .args .t1 .stops) (omega arith);
+      bytes = placed-bytes (s .args .t1) _ (s .good .0);
+    }
+
+pub values-of-spec : {M : Type 1} → statement M
+values-of-spec =
+    tie.close
+    (tie.spec
+    Inv-loop
+    μ-loop
+    cast-n
+    loop-holds
+    mul-s
+    element-copy-out-s
+    store-requires
+    add-i
+    loop-less
+    loop-again
+    returns)

@@ -1,0 +1,47 @@
+-- Placed stops as two lent slices of numbers: for each stop its position, held, and four numbers for its premultiplied channels.
+-- Assumes nothing.
+use mathlib.Core.List.{List, [], _∷_}
+use Prim.Native.Nat.{ℕ, suc, _+_, _*_, _≤_, _<_}
+use lib.Dec.{leb}
+use lib.ListN.{length, getD}
+use Rattle.numbers.specs.Held.{unheld}
+use Rattle.numbers.specs.Fraction.{Fraction, _⁄_}
+use Rattle.color.specs.Stop.{Channel, Stop, lastPlace}
+use Rattle.color.specs.Byte.{channels}
+
+-- the channels of stop i: four numbers from 4 * i on
+abbrev pub valuesAt : List ℕ → ℕ → Channel → ℕ
+valuesAt vs i = channels (getD vs (4 * i) 0) (getD vs (4 * i + 1) 0) (getD vs (4 * i + 2) 0) (getD vs (4 * i + 3) 0)
+
+-- the stops, the first of them with number i
+unfoldable pub stopsFrom : ℕ → List ℕ → List ℕ → List Stop
+stopsFrom i [] vs = []
+stopsFrom i (p ∷ ps) vs = record { value = valuesAt vs i; position = unheld p } ∷ stopsFrom (suc i) ps vs
+
+abbrev pub stopsOf : List ℕ → List ℕ → List Stop
+stopsOf ps vs = stopsFrom 0 ps vs
+
+-- no number is above 255 · 255
+abbrev pub Small : List ℕ → Type 0
+Small vs = (i : ℕ) → getD vs i 0 ≤ 65025
+
+-- what the code asks of the slices: at least one stop, and four numbers for each; the positions may be in any order
+pub record Lent (ps vs : List ℕ) : Type 0 where
+  pub some : 0 < length ps
+  pub four : 4 * length ps ≤ length vs
+  pub small : Small vs
+
+-- the place of the last position at or below `at`, all of them held
+abbrev pub lastUpTo : List ℕ → ℕ → ℕ
+lastUpTo ps at = lastPlace (λ (p : ℕ). leb p at) ps
+
+-- stop i is at or below `at`, and the next one is above it
+pub record Between (ps vs : List ℕ) (i at : ℕ) : Type 0 where
+  pub next : i + 1 < length ps
+  pub below : getD ps i 0 ≤ at
+  pub above : at < getD ps (i + 1) 0
+  pub lent : Lent ps vs
+
+-- the mix of P and Q at x units from the one and y from the other
+abbrev pub mix : ℕ → ℕ → ℕ → ℕ → Fraction
+mix p q x y = (p * y + q * x) ⁄ (255 * (x + y))

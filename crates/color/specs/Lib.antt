@@ -1,0 +1,6 @@
+pub mod Stop
+pub mod Byte
+pub mod Accuracy
+pub mod Lent
+pub mod Arrays
+pub mod Worked

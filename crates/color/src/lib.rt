@@ -1,0 +1,216 @@
+// The color of a location on the gradient line, from placed stops that are lent as two slices of numbers, and these numbers of placed stops.
+// A position, and a location, is held as the number 2^25 above it. A stop has four values, its premultiplied channels.
+use gradient::Color;
+use numbers::hold;
+use stops::PlacedStops;
+ghost use mathlib.Core.Path.{_≡_};
+ghost use mathlib.Core.List.{_++_, []};
+ghost use Prim.Native.Nat.{_+_, _-_, _*_, _≤_, _<_, _/_, _^_};
+ghost use lib.ListN.{length, getD, take};
+ghost use Rattle.numbers.specs.Held.{unheld};
+ghost use Rattle.numbers.specs.Fraction.{_⁄_, nearest};
+ghost use Rattle.stops.specs.Check.{placedOf};
+ghost use Rattle.color.specs.Stop.{Channel};
+ghost use Rattle.color.specs.Byte.{rgba, colorAt};
+ghost use Rattle.color.specs.Lent.{Small, Lent, Between, stopsOf, valuesAt, lastUpTo, mix};
+ghost use Rattle.color.specs.Arrays.{Holdable, positionsOf, fourOf, Values};
+
+// A pixel's four bytes, premultiplied.
+pub struct Rgba {
+    pub red: u8,
+    pub green: u8,
+    pub blue: u8,
+    pub alpha: u8,
+}
+
+// ---- the color of a location
+
+// The place, counted from 1, of the last position at or below `at`; 0 where none is.
+fn last_up_to(positions: &[u32], at: u32) -> usize
+    ensures { λ r. ⌜ r ≡ lastUpTo (now (positions .entry)) at ⌝ }
+{
+    let mut place: usize = 0;
+    let mut i: usize = 0;
+    while i < positions.len() {
+        if positions[i] <= at {
+            place = i + 1;
+        }
+        i += 1;
+    }
+    place
+}
+
+// A stop's own byte: P / 255 to the nearest whole, halves up.
+fn stop_byte(p: u32) -> u8
+    requires { ⌜ p ≤ 65025 ⌝ }
+    ensures { λ r. ⌜ r ≡ nearest (p ⁄ 255) ⌝ }
+{
+    ((2 * p + 255) / 510) as u8
+}
+
+// n / d: the guess where it is right, else by division.
+fn quotient(n: u64, d: u64, guess: u8) -> u64
+    requires { ⌜ (0 < d) × (d < 2 ^ 48) ⌝ }
+    ensures { λ r. ⌜ r ≡ n / d ⌝ }
+{
+    let k = guess as u64;
+    let e = k * d;
+    if e <= n {
+        if n < e + d {
+            return k;
+        }
+    }
+    n / d
+}
+
+// The byte at x units from P's stop and y from Q's. Here and below the guess changes only the time.
+fn mix_byte(p: u32, q: u32, x: u32, y: u32, guess: u8) -> u8
+    requires { ⌜ (p ≤ 65025) × (q ≤ 65025) × (0 < y) ⌝ }
+    ensures { λ r. ⌜ r ≡ nearest (mix p q x y) ⌝ }
+{
+    let num = (p as u64) * (y as u64) + (q as u64) * (x as u64);
+    let den = 255 * ((x as u64) + (y as u64));
+    quotient(2 * num + den, 2 * den, guess) as u8
+}
+
+// The byte of number k alone.
+fn stop_channel(values: &[u32], k: usize) -> u8
+    requires { ⌜ (k < length (now values)) × Small (now values) ⌝ }
+    ensures { λ r. ⌜ r ≡ nearest (getD (now (values .entry)) k 0 ⁄ 255) ⌝ }
+{
+    stop_byte(values[k])
+}
+
+// The byte of number k mixed with number m, the same channel of the next stop.
+fn mix_channel(values: &[u32], k: usize, m: usize, x: u32, y: u32, guess: u8) -> u8
+    requires { ⌜ (k < length (now values)) × (m < length (now values)) × Small (now values) × (0 < y) ⌝ }
+    ensures { λ r. ⌜ r ≡ nearest (mix (getD (now (values .entry)) k 0) (getD (now (values .entry)) m 0) x y) ⌝ }
+{
+    mix_byte(values[k], values[m], x, y, guess)
+}
+
+// The bytes of stop i.
+fn at_stop(values: &[u32], i: usize) -> Rgba
+    requires { ⌜ (4 * i + 3 < length (now values)) × Small (now values) ⌝ }
+    ensures { λ r. ⌜ r ≡ rgba (λ (c : Channel). nearest (valuesAt (now (values .entry)) i c ⁄ 255)) ⌝ }
+{
+    let k = 4 * i;
+    Rgba {
+        red: stop_channel(values, k),
+        green: stop_channel(values, k + 1),
+        blue: stop_channel(values, k + 2),
+        alpha: stop_channel(values, k + 3),
+    }
+}
+
+// The bytes at x units from stop i and y from the next.
+fn mix_stops(values: &[u32], i: usize, x: u32, y: u32, guess: Rgba) -> Rgba
+    requires { ⌜ (4 * i + 7 < length (now values)) × Small (now values) × (0 < y) ⌝ }
+    ensures { λ r. ⌜ r ≡ rgba (λ (c : Channel). nearest (mix (valuesAt (now (values .entry)) i c) (valuesAt (now (values .entry)) (i + 1) c) x y)) ⌝ }
+{
+    let k = 4 * i;
+    let m = 4 * (i + 1);
+    Rgba {
+        red: mix_channel(values, k, m, x, y, guess.red),
+        green: mix_channel(values, k + 1, m + 1, x, y, guess.green),
+        blue: mix_channel(values, k + 2, m + 2, x, y, guess.blue),
+        alpha: mix_channel(values, k + 3, m + 3, x, y, guess.alpha),
+    }
+}
+
+// The bytes at a location between stop i and the next.
+fn between(positions: &[u32], values: &[u32], i: usize, at: u32, guess: Rgba) -> Rgba
+    requires { ⌜ Between (now positions) (now values) i at ⌝ }
+    ensures { λ r. ⌜ r ≡ rgba (λ (c : Channel). nearest (mix (valuesAt (now (values .entry)) i c) (valuesAt (now (values .entry)) (i + 1) c)
+        (at - getD (now (positions .entry)) i 0) (getD (now (positions .entry)) (i + 1) 0 - at))) ⌝ }
+{
+    mix_stops(values, i, at - positions[i], positions[i + 1] - at, guess)
+}
+
+// The color at a location, held, of the placed stops that the two slices hold. A guess near it saves divisions; whatever it is, the answer is the
+// same.
+pub fn color_near(positions: &[u32], values: &[u32], at: u32, guess: Rgba) -> Rgba
+    requires { ⌜ Lent (now positions) (now values) ⌝ }
+    ensures { λ r. ⌜ r ≡ colorAt (stopsOf (now (positions .entry)) (now (values .entry))) (unheld at) ⌝ }
+{
+    let place = last_up_to(positions, at);
+    if place == 0 {
+        return at_stop(values, 0);
+    }
+    if place == positions.len() {
+        return at_stop(values, place - 1);
+    }
+    between(positions, values, place - 1, at, guess)
+}
+
+// Transparent black.
+pub fn clear() -> Rgba {
+    Rgba {
+        red: 0,
+        green: 0,
+        blue: 0,
+        alpha: 0,
+    }
+}
+
+pub fn color_at(positions: &[u32], values: &[u32], at: u32) -> Rgba
+    requires { ⌜ Lent (now positions) (now values) ⌝ }
+    ensures { λ r. ⌜ r ≡ colorAt (stopsOf (now (positions .entry)) (now (values .entry))) (unheld at) ⌝ }
+{
+    color_near(positions, values, at, clear())
+}
+
+// ---- the numbers of placed stops
+
+// The positions of the stops, held, in the first places.
+pub fn positions_of(p: PlacedStops) -> [u32; 16]
+    requires { ⌜ Holdable p ⌝ }
+    ensures { λ r. ⌜ take (p .count) r ≡ positionsOf (placedOf p) ⌝ }
+{
+    let n = p.count as usize;
+    let mut positions = [0u32; 16];
+    let mut i: usize = 0;
+    while i < n {
+        let s = p.stops[i];
+        positions[i] = hold(s.position);
+        i += 1;
+    }
+    positions
+}
+
+fn premultiply(c: u8, a: u8) -> u32
+    ensures { λ r. ⌜ (r ≡ c * a) × (r ≤ 65025) ⌝ }
+{
+    (c as u32) * (a as u32)
+}
+
+// The values with those of stop i stored.
+fn store(values: [u32; 64], i: usize, c: Color) -> [u32; 64]
+    requires { ⌜ (i < 16) × Small values ⌝ }
+    ensures { λ r. ⌜ (take (4 * (i + 1)) r ≡ take (4 * i) values ++ fourOf c []) × Small r ⌝ }
+{
+    let mut out = values;
+    let k = 4 * i;
+    out[k] = premultiply(c.red, c.alpha);
+    out[k + 1] = premultiply(c.green, c.alpha);
+    out[k + 2] = premultiply(c.blue, c.alpha);
+    out[k + 3] = premultiply(255, c.alpha);
+    out
+}
+
+// The premultiplied channels of the stops, four numbers to a stop, in the first places.
+pub fn values_of(p: PlacedStops) -> [u32; 64]
+    requires { ⌜ p .count ≤ 16 ⌝ }
+    ensures { λ r. ⌜ Values p r ⌝ }
+{
+    let n = p.count as usize;
+    let mut values = [0u32; 64];
+    let mut i: usize = 0;
+    while i < n {
+        let s = p.stops[i];
+        let next = store(values, i, s.color);
+        values = next;
+        i += 1;
+    }
+    values
+}

@@ -1,0 +1,92 @@
+-- What the reply 0 of a drawing call says, and the lower of two replies.
+-- Assumes nothing.
+use mathlib.Core.Path.{_≡_, refl, sym, ap, _∙_}
+use mathlib.Core.List.{List}
+use Prim.Native.Nat.{ℕ, zero, suc, _*_, _≤_, _<_}
+use native.Mathlib.Omega.{arith}
+use borrow.Author.Tests.{ltb-false, not-false}
+use Rattle.gradient.specs.Check.{Accepted, checkOf}
+use Rattle.gradient.specs.declared.Gradient.{Gradient}
+use Rattle.gradient.proofs.Laws.{orElse-zero, given-zero, accepted}
+use Rattle.line.specs.Box.{Box}
+use Rattle.line.specs.Location.{Rule}
+use Rattle.stops.specs.Check.{checkPlacedOf}
+use Rattle.stops.specs.declared.PlacedStop.{PlacedStop}
+use Rattle.stops.specs.declared.PlacedStops.{PlacedStops}
+use Rattle.stops.proofs.Laws.{accepted-placed, accepted-places}
+use Rattle.placing.proofs.Replies.{box-is}
+use Rattle.color.specs.Arrays.{Holdable}
+use Rattle.drawing.specs.Replies.{roomReply, lowest, gradientReply, stopsReply}
+use Rattle.drawing.specs.Inner.{Painted}
+
+pub record Room (w h n : ℕ) : Type 0 where
+  pub box : Box w h
+  pub room : 4 * w * h ≤ n
+
+pub roomy : (w h n : ℕ) → roomReply w h n ≡ 0 → Room w h n
+unfolding roomReply
+roomy w h n e =
+    let k = orElse-zero _ _ e in
+    record { box = box-is w h (not-false _ (given-zero _ _ (k .0))); room = ltb-false _ _ (given-zero _ _ (k .1)) }
+
+pub record Ready (p : PlacedStops) : Type 0 where
+  pub held : Holdable p
+  pub some : 0 < p .count
+
+-- stops that are accepted can be held
+pub ready : (p : PlacedStops) → checkPlacedOf p ≡ 0 → Ready p
+ready p e =
+    let a = accepted-placed p e in
+    record { held = record { fit = a .fit; range = accepted-places p a }; some = omega (arith, a .two) }
+
+-- ---- the lower of two replies
+pub lowest-none : (a b : ℕ) → a ≡ 0 → b ≡ lowest a b
+unfolding lowest
+lowest-none a b e = rw e
+
+pub lowest-first : (a b : ℕ) → (a ≡ 0 → ⊥) → b ≡ 0 → a ≡ lowest a b
+unfolding lowest
+lowest-first zero b n e = absurd (n refl)
+lowest-first (suc a) b n e = rw e
+
+pub lowest-left : (a b : ℕ) → (a ≡ 0 → ⊥) → (b ≡ 0 → ⊥) → a ≤ b → a ≡ lowest a b
+unfolding lowest
+lowest-left zero b n m h = absurd (n refl)
+lowest-left (suc a) zero n m h = absurd (m refl)
+lowest-left (suc a) (suc b) n m h = omega arith
+
+pub lowest-right : (a b : ℕ) → (a ≡ 0 → ⊥) → (b ≡ 0 → ⊥) → (a ≤ b → ⊥) → b ≡ lowest a b
+unfolding lowest
+lowest-right zero b n m h = absurd (n refl)
+lowest-right (suc a) zero n m h = absurd (m refl)
+lowest-right (suc a) (suc b) n m h = omega arith
+
+lowest-zero : (a b : ℕ) → lowest a b ≡ 0 → (a ≡ 0) × (b ≡ 0)
+unfolding lowest
+lowest-zero zero b e = (refl, e)
+lowest-zero (suc a) zero e = absurd (omega arith)
+lowest-zero (suc a) (suc b) e = absurd (omega arith)
+
+-- ---- the reply 0 of the two calls
+pub record Drawable (g : Gradient) (w h n : ℕ) : Type 0 where
+  pub room : Room w h n
+  pub gradient : Accepted g
+
+pub drawable : (g : Gradient) (w h n : ℕ) → gradientReply g w h n ≡ 0 → Drawable g w h n
+drawable g w h n e = let k = orElse-zero _ _ e in record { room = roomy w h n (k .0); gradient = accepted g (k .1) }
+
+pub record Along (g : Gradient) (p : PlacedStops) (w h n : ℕ) : Type 0 where
+  pub room : Room w h n
+  pub gradient : Accepted g
+  pub stops : Ready p
+
+pub along : (g : Gradient) (p : PlacedStops) (w h n : ℕ) → stopsReply g p w h n ≡ 0 → Along g p w h n
+along g p w h n e =
+    let k = orElse-zero _ _ e in
+    let l = lowest-zero _ _ (k .1) in
+    record { room = roomy w h n (k .0); gradient = accepted g (l .0); stops = ready p (l .1) }
+
+-- ---- a painted buffer, said of equal rules and stops
+pub painted-same : {rule rule′ : Rule} {stops stops′ : List PlacedStop} {w h : ℕ} {before after : List ℕ} → rule ≡ rule′ → stops ≡ stops′
+    → Painted rule stops w h before after → Painted rule′ stops′ w h before after
+painted-same e k p = rw (← e, ← k) p

@@ -1,0 +1,2 @@
+pub mod Accurate
+pub mod Accepted

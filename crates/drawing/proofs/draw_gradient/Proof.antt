@@ -1,0 +1,45 @@
+-- `drawing::draw_gradient` meets its contract. Assumes nothing.
+use mathlib.Core.Path.{sym, _∙_}
+use Rattle.line.proofs.Bounds.{bounds}
+use Rattle.drawing.proofs.Accepted.{drawable}
+use Rattle.drawing.proofs.Accurate.{drawn, not-drawn}
+use borrow.Author.Needs.{needs}
+use Rattle.drawing.proofs.draw_gradient.Statement.{statement}
+use Rattle.drawing.proofs.draw_gradient.Tie as tie
+
+gradient-reply-requires : tie.Need-gradient-reply-requires
+gradient-reply-requires c κs = search needs
+
+draw-accepted-requires : tie.Need-draw-accepted-requires
+draw-accepted-requires c κs =
+    let k = drawable _ _ _ _ (sym (c .before .before .gradient-reply .ensures) ∙ c .before .if1 .taken) in
+    (k .room .box, k .gradient, k .room .room)
+
+same-length : tie.Need-same-length
+same-length c = search needs
+
+returns : tie.Need-returns
+returns c =
+    let z = sym (c .before .before .before .before .before .gradient-reply .ensures) ∙ c .before .before .before .before .if1 .taken in
+    drawn _ _ _ _ _ _ _ (bounds .some-scale _ _ _ (drawable _ _ _ _ z .room .box)) z (c .before .before .draw-accepted .ensures)
+
+clear-requires : tie.Need-clear-requires
+clear-requires c κs = search needs
+
+same-length-2 : tie.Need-same-length-2
+same-length-2 c = search needs
+
+returns-2 : tie.Need-returns-2
+returns-2 c = not-drawn _ _ _ _ _ _ _ (c .before .before .before .before .before .gradient-reply .result) (c .before .before .before .before .before .gradient-reply .ensures) (c .before .before .before .before .if1 .left) (c .before .before .clear .ensures)
+
+pub draw-gradient-spec : {M : Type 1} → statement M
+draw-gradient-spec =
+    tie.close
+    (tie.spec
+    gradient-reply-requires
+    draw-accepted-requires
+    same-length
+    returns
+    clear-requires
+    same-length-2
+    returns-2)

@@ -1,0 +1,33 @@
+-- What a drawing call leaves in a lent buffer, and how near each pixel is to the exact color: the demands 1, 2 and 3, in one record.
+-- Assumes nothing.
+use mathlib.Core.Path.{_≡_}
+use mathlib.Core.List.{List}
+use Prim.Native.Nat.{ℕ, _+_, _*_, _<_}
+use lib.IntN.{pos}
+use lib.ListN.{length, getD}
+use Rattle.root.specs.Root.{IsRoot}
+use Rattle.line.specs.Location.{Rule, locationBy}
+use Rattle.color.specs.Stop.{Channel, Stop, Location}
+use Rattle.color.specs.Byte.{channels}
+use Rattle.color.specs.Accuracy.{Within, Accurate}
+use Rattle.picture.specs.Picture.{picture, buffer}
+use Rattle.rows.specs.Pixel.{pixelOf}
+
+-- the four bytes that stand at pixel (i, j) of a buffer, w pixels in a row
+abbrev pub bytesAt : List ℕ → ℕ → ℕ → ℕ → Channel → ℕ
+bytesAt buf w i j =
+    channels (getD buf (4 * (j * w + i)) 0) (getD buf (4 * (j * w + i) + 1) 0) (getD buf (4 * (j * w + i) + 2) 0) (getD buf (4 * (j * w + i) + 3) 0)
+
+-- Demand 3 of the bytes of pixel (i, j), s being its location: "The claim is made for every fraction t from s up to but not including s+1,
+-- together with the proof that the exact one lies there: with s for q the rule holds, with s+1 it doesn't."
+pub record PixelAccurate (rule : Rule) (stops : List Stop) (i j : ℕ) (byte : Channel → ℕ) : Type 0 where
+  pub exact-location : IsRoot (rule .scale) (rule .square i j) (locationBy rule i j)
+  pub accurate : (t : Location) → Within (pos (locationBy rule i j)) t → Accurate stops (pos (locationBy rule i j)) t byte
+
+-- A call whose answer should be `answer`, for a picture of w by h pixels in a buffer that held `before`, has answered r and left `after`.
+-- Demand 1: "After a refusal every byte of the lent pixel buffer is zero, and on success so is every byte past the picture." Demand 2: the
+-- pixels are those that the rules define.
+pub record Drawn (answer : ℕ) (rule : Rule) (stops : List Stop) (w h r : ℕ) (before after : List ℕ) : Type 0 where
+  pub reply : r ≡ answer
+  pub bytes-left : after ≡ buffer r (picture (pixelOf rule stops) w h) (length before)
+  pub pixels : r ≡ 0 → (i j : ℕ) → i < w → j < h → PixelAccurate rule stops i j (bytesAt after w i j)

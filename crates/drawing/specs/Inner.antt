@@ -1,0 +1,16 @@
+-- What the code that draws accepted stops leaves. Assumes nothing.
+use mathlib.Core.Path.{_≡_}
+use mathlib.Core.List.{List, map}
+use Prim.Native.Nat.{ℕ}
+use lib.ListN.{length}
+use Rattle.line.specs.Location.{Rule}
+use Rattle.stops.specs.declared.PlacedStop.{PlacedStop}
+use Rattle.color.specs.Stop.{stopOf}
+use Rattle.color.specs.Accuracy.{AllBytes}
+use Rattle.picture.specs.Picture.{picture, padded}
+use Rattle.rows.specs.Pixel.{pixelOf}
+
+-- the picture, then zeros; and the colors of the stops are bytes, as their type says
+pub record Painted (rule : Rule) (stops : List PlacedStop) (w h : ℕ) (before after : List ℕ) : Type 0 where
+  pub left : after ≡ padded (length before) (picture (pixelOf rule (map stopOf stops)) w h)
+  pub colors : AllBytes stops

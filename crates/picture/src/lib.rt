@@ -1,0 +1,76 @@
+// Writes into a lent buffer of bytes, four to a pixel.
+ghost use mathlib.Core.Path.{_≡_};
+ghost use mathlib.Core.List.{_∷_, []};
+ghost use Prim.Native.Nat.{_+_, _-_, _*_, _≤_, _<_};
+ghost use lib.ListN.{length, take, drop, replicate};
+ghost use Rattle.picture.specs.Picture.{copies, patched};
+
+// Stores four bytes from `at` on.
+pub fn put(buf: &mut [u8], at: usize, r: u8, g: u8, b: u8, a: u8)
+    requires { ⌜ at + 4 ≤ length (now buf) ⌝ }
+    ensures { λ _. ⌜ now (buf .exit) ≡ patched (now (buf .entry)) at (r ∷ g ∷ b ∷ a ∷ []) ⌝ }
+{
+    buf[at] = r;
+    buf[at + 1] = g;
+    buf[at + 2] = b;
+    buf[at + 3] = a;
+}
+
+// Zeros from `at` to the end.
+pub fn clear_from(buf: &mut [u8], at: usize)
+    requires { ⌜ at ≤ length (now buf) ⌝ }
+    ensures { λ _. ⌜ now (buf .exit) ≡ patched (now (buf .entry)) at (replicate (length (now (buf .entry)) - at) 0) ⌝ }
+{
+    let mut i = at;
+    while i < buf.len() {
+        buf[i] = 0;
+        i += 1;
+    }
+}
+
+// Zeros everywhere.
+pub fn clear(buf: &mut [u8])
+    ensures { λ _. ⌜ now (buf .exit) ≡ replicate (length (now (buf .entry))) 0 ⌝ }
+{
+    clear_from(buf, 0);
+}
+
+// Copies the n bytes that stand from `from` on to a later place.
+pub fn copy_row(buf: &mut [u8], from: usize, to: usize, n: usize)
+    requires { ⌜ (from + n ≤ to) × (to + n ≤ length (now buf)) ⌝ }
+    ensures { λ _. ⌜ now (buf .exit) ≡ patched (now (buf .entry)) to (take n (drop from (now (buf .entry)))) ⌝ }
+{
+    let mut i = 0;
+    while i < n {
+        buf[to + i] = buf[from + i];
+        i += 1;
+    }
+}
+
+// Copies the n bytes that stand from `at` on behind themselves, so that they stand there h times.
+pub fn copy_rows(buf: &mut [u8], at: usize, n: usize, h: usize)
+    requires { ⌜ (0 < h) × (at + n * h ≤ length (now buf)) ⌝ }
+    ensures { λ _. ⌜ now (buf .exit) ≡ patched (now (buf .entry)) at (copies h (take n (drop at (now (buf .entry))))) ⌝ }
+{
+    let mut j = 1;
+    let mut o = at + n;
+    while j < h {
+        copy_row(buf, at, o, n);
+        o += n;
+        j += 1;
+    }
+}
+
+// Stores the same four bytes w times from `at` on.
+pub fn fill_row(buf: &mut [u8], at: usize, w: usize, r: u8, g: u8, b: u8, a: u8)
+    requires { ⌜ at + 4 * w ≤ length (now buf) ⌝ }
+    ensures { λ _. ⌜ now (buf .exit) ≡ patched (now (buf .entry)) at (copies w (r ∷ g ∷ b ∷ a ∷ [])) ⌝ }
+{
+    let mut i = 0;
+    let mut o = at;
+    while i < w {
+        put(buf, o, r, g, b, a);
+        o += 4;
+        i += 1;
+    }
+}

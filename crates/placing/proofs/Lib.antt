@@ -1,0 +1,9 @@
+pub mod Replies
+pub mod Between
+pub mod Scan
+pub mod Steps
+pub mod Above
+pub mod Sorting
+pub mod Within
+pub mod Whole
+pub mod Laws

@@ -1,0 +1,6 @@
+pub mod Spot
+pub mod Fixup
+pub mod Placed
+pub mod Reply
+pub mod Held
+pub mod Worked

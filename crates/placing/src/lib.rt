@@ -1,0 +1,283 @@
+// From a gradient and a box to placed stops. Positions are held inside as unsigned numbers of units, 2^25 above, and 0 stands for a stop that
+// is not placed.
+use gradient::Gradient;
+use gradient::Position;
+use gradient::Stop;
+use stops::PlacedStop;
+use stops::PlacedStops;
+ghost use mathlib.Core.Path.{_≡_};
+ghost use mathlib.Core.Bool.{true};
+ghost use mathlib.Core.List.{map};
+ghost use Prim.Native.Nat.{ℕ, _+_, _≤_, _<_, max};
+ghost use lib.IntN.{pos};
+ghost use lib.ListN.{length, take, drop, getD};
+ghost use Rattle.numbers.specs.Held.{unheld};
+ghost use Rattle.gradient.specs.Blank.{blankStop};
+ghost use Rattle.gradient.specs.Range.{positionIn, stopIn};
+ghost use Rattle.gradient.specs.Check.{Accepted};
+ghost use Rattle.line.specs.Box.{Box};
+ghost use Rattle.line.specs.Bounds.{longest};
+ghost use Rattle.placing.specs.Spot.{spotOf};
+ghost use Rattle.placing.specs.Fixup.{orAt, endsPlaced, raised, between, spaced, fixup};
+ghost use Rattle.placing.specs.Placed.{spotsOf, placedAt, atPositions, placedIn, listed};
+ghost use Rattle.placing.specs.Reply.{boxIn, placeReply, placeOf};
+ghost use Rattle.placing.specs.Held.{spot, raisedHeld, Ready, Follows, Stepped};
+
+// The reply, and the placed stops where it is 0.
+pub struct Placing {
+    pub reply: u32,
+    pub stops: PlacedStops,
+}
+
+// ---- units
+
+// A position in units.
+fn position_units(p: Position, line: u32) -> u32
+    requires { ⌜ (positionIn p ≡ true) × (line ≤ longest) ⌝ }
+    ensures { λ r. ⌜ spot r ≡ spotOf line p ⌝ }
+{
+    match p {
+        Position::Auto => 0,
+        Position::Length(t) => numbers::length_units(t),
+        Position::Percentage(t) => numbers::percentage_units(t, line),
+    }
+}
+
+fn stop_units(s: Stop, line: u32) -> u32
+    requires { ⌜ (stopIn s ≡ true) × (line ≤ longest) ⌝ }
+    ensures { λ r. ⌜ spot r ≡ spotOf line (s .position) ⌝ }
+{
+    let p = s.position;
+    position_units(p, line)
+}
+
+// The positions of the first n stops.
+fn list_units(stops: [Stop; 16], n: usize, line: u32) -> [u32; 16]
+    requires { ⌜ (n ≤ 16) × ((i : ℕ) → i < n → stopIn (getD stops i blankStop) ≡ true) × (line ≤ longest) ⌝ }
+    ensures { λ r. ⌜ map spot (take n r) ≡ spotsOf line (take n stops) ⌝ }
+{
+    let mut ps = [0u32; 16];
+    let mut i: usize = 0;
+    while i < n {
+        let s = stops[i];
+        ps[i] = stop_units(s, line);
+        i += 1;
+    }
+    ps
+}
+
+// ---- (a): an unplaced first stop gets 0, an unplaced last one the line length
+
+fn or_at(p: u32, z: u32) -> u32
+    requires { ⌜ 0 < z ⌝ }
+    ensures { λ r. ⌜ spot r ≡ orAt (unheld z) (spot p) ⌝ }
+{
+    if p == 0 { z } else { p }
+}
+
+fn place_ends(ps: &mut [u32], line: u32)
+    requires { ⌜ (0 < length (now ps)) × (line ≤ longest) ⌝ }
+    ensures { λ r. ⌜ map spot (now (ps .exit)) ≡ endsPlaced line (map spot (now (ps .entry))) ⌝ }
+{
+    let first = ps[0];
+    ps[0] = or_at(first, 33554432);
+    let n = ps.len() - 1;
+    let last = ps[n];
+    ps[n] = or_at(last, line + 33554432);
+}
+
+// ---- (b): a placed stop below the greatest earlier placed stop is raised to it
+
+fn greater(a: u32, b: u32) -> u32
+    ensures { λ r. ⌜ r ≡ max a b ⌝ }
+{
+    if a < b { b } else { a }
+}
+
+fn raised_to(p: u32, g: u32) -> u32
+    ensures { λ r. ⌜ r ≡ raisedHeld p g ⌝ }
+{
+    if p == 0 { 0 } else { greater(g, p) }
+}
+
+fn raise_stops(ps: &mut [u32])
+    ensures { λ r. ⌜ map spot (now (ps .exit)) ≡ raised (map spot (now (ps .entry))) ⌝ }
+{
+    let mut g: u32 = 0;
+    let mut i: usize = 0;
+    while i < ps.len() {
+        let p = raised_to(ps[i], g);
+        ps[i] = p;
+        g = greater(g, p);
+        i += 1;
+    }
+}
+
+// ---- (c): the unplaced stops between two placed ones are spaced evenly
+
+// The next placed stop, and how many unplaced ones stand before it.
+struct Next {
+    at: u32,
+    run: usize,
+}
+
+fn next_placed(ps: &[u32], from: usize) -> Next
+    requires { ⌜ from ≤ length (now ps) ⌝ }
+    ensures { λ r. ⌜ Follows (drop from (now (ps .entry))) (r .at) (r .run) ⌝ }
+{
+    let mut i = from;
+    while i < ps.len() {
+        let p = ps[i];
+        if p != 0 {
+            return Next {
+                at: p,
+                run: i - from,
+            };
+        }
+        i += 1;
+    }
+    Next {
+        at: 33554432,
+        run: i - from,
+    }
+}
+
+// The position m parts of k on the way from a to b.
+fn part_way(a: u32, b: u32, m: usize, k: usize) -> u32
+    requires { ⌜ (a ≤ b) × (m < k) × (k ≤ 64) ⌝ }
+    ensures { λ r. ⌜ unheld r ≡ between (unheld a) (unheld b) m k ⌝ }
+{
+    let d = numbers::round(((b - a) as u64) * (m as u64), k as u64);
+    a + (d as u32)
+}
+
+// A stop that is spaced, the last placed stop, and the place after it that the next unplaced stop has.
+struct Spaced {
+    at: u32,
+    from: u32,
+    count: usize,
+}
+
+fn space_stop(ps: &[u32], i: usize, a: u32, m: usize) -> Spaced
+    requires { ⌜ (i < length (now ps)) × (length (now ps) ≤ 16) × (m ≤ i + 1) × Ready (unheld a) (map spot (drop i (now ps))) ⌝ }
+    ensures { λ r. ⌜ Stepped (unheld a) m (drop i (now (ps .entry))) (drop (i + 1) (now (ps .entry))) (r .at) (r .from) (r .count) ⌝ }
+{
+    let p = ps[i];
+    if p != 0 {
+        return Spaced {
+            at: p,
+            from: p,
+            count: 1,
+        };
+    }
+    let t = next_placed(ps, i + 1);
+    Spaced {
+        at: part_way(a, t.at, m, m + 1 + t.run),
+        from: a,
+        count: m + 1,
+    }
+}
+
+fn space_stops(ps: &mut [u32])
+    requires { ⌜ (length (now ps) ≤ 16) × Ready (pos 0) (map spot (now ps)) ⌝ }
+    ensures { λ r. ⌜ map unheld (now (ps .exit)) ≡ spaced (map spot (now (ps .entry))) ⌝ }
+{
+    let mut a: u32 = 33554432;
+    let mut m: usize = 1;
+    let mut i: usize = 0;
+    while i < ps.len() {
+        let s = space_stop(ps, i, a, m);
+        ps[i] = s.at;
+        a = s.from;
+        m = s.count;
+        i += 1;
+    }
+}
+
+// ---- the whole
+
+// Steps (a) to (c).
+fn fix_up(ps: &mut [u32], line: u32)
+    requires { ⌜ (0 < length (now ps)) × (length (now ps) ≤ 16) × (line ≤ longest) ⌝ }
+    ensures { λ r. ⌜ map unheld (now (ps .exit)) ≡ fixup line (map spot (now (ps .entry))) ⌝ }
+{
+    place_ends(ps, line);
+    raise_stops(ps);
+    space_stops(ps);
+}
+
+fn placed_stop(s: Stop, u: u32) -> PlacedStop
+    requires { ⌜ u ≤ 67108864 ⌝ }
+    ensures { λ r. ⌜ r ≡ placedAt s (unheld u) ⌝ }
+{
+    let color = s.color;
+    PlacedStop {
+        color: color,
+        position: numbers::release(u),
+    }
+}
+
+// The first n stops at the first n positions.
+fn attach(stops: [Stop; 16], ps: [u32; 16], n: usize) -> PlacedStops
+    requires { ⌜ (n ≤ 16) × ((i : ℕ) → i < n → getD ps i 0 ≤ 67108864) ⌝ }
+    ensures { λ r. ⌜ r ≡ listed (atPositions (take n stops) (map unheld (take n ps))) ⌝ }
+{
+    let mut out = [stops::blank_placed(); 16];
+    let mut i: usize = 0;
+    while i < n {
+        let s = stops[i];
+        out[i] = placed_stop(s, ps[i]);
+        i += 1;
+    }
+    PlacedStops {
+        count: n as u32,
+        stops: out,
+    }
+}
+
+// The stops of a gradient, placed in a box.
+pub fn place_in_box(g: Gradient, w: usize, h: usize) -> PlacedStops
+    requires { ⌜ Box w h × Accepted g ⌝ }
+    ensures { λ r. ⌜ r ≡ listed (placedIn g w h) ⌝ }
+{
+    let shape = g.shape;
+    let line = line::line_length(shape, w, h);
+    let n = g.count as usize;
+    let stops = g.stops;
+    let mut ps = list_units(stops, n, line);
+    fix_up(&mut ps[..n], line);
+    attach(stops, ps, n)
+}
+
+// Whether a box is from 1 to 2,048 pixels wide and high.
+pub fn box_in(w: usize, h: usize) -> bool
+    ensures { λ r. ⌜ r ≡ boxIn w h ⌝ }
+{
+    1 <= w && (w <= 2048 && (1 <= h && h <= 2048))
+}
+
+fn place_reply(g: Gradient, w: usize, h: usize) -> u32
+    ensures { λ r. ⌜ r ≡ placeReply g w h ⌝ }
+{
+    if !box_in(w, h) {
+        return 1;
+    }
+    gradient::check(g)
+}
+
+// The stops of a gradient, placed in a box, or the reply to a gradient or a box that is not accepted.
+pub fn place(g: Gradient, w: usize, h: usize) -> Placing
+    ensures { λ r. ⌜ r ≡ placeOf g w h ⌝ }
+{
+    let reply = place_reply(g, w, h);
+    if reply != 0 {
+        return Placing {
+            reply: reply,
+            stops: stops::no_stops(),
+        };
+    }
+    Placing {
+        reply: reply,
+        stops: place_in_box(g, w, h),
+    }
+}

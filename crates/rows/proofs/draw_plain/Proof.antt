@@ -1,0 +1,99 @@
+-- `rows::draw_plain` meets its contract. The invariant: the rows up to j stand from the buffer's start on. Assumes nothing.
+use Rattle.picture.specs.Picture.{copies}
+use Rattle.rows.proofs.Pixels.{pixel-is, four, plain, one-more, rows-turn}
+use mathlib.Core.Path.{_≡_, refl, sym, ap, _∙_}
+use mathlib.Core.List.{List}
+use Prim.Native.Nat.{ℕ, _+_, _-_, _*_, _≤_}
+use native.Mathlib.Nat.{mul-zero}
+use native.Mathlib.Omega.{arith}
+use denote.Ref.{now}
+use lib.ListN.{length}
+use Rattle.picture.specs.Picture.{row, strip, picture, patched}
+use Rattle.picture.proofs.Rows.{row-length, strip-none, strip-more, strip-length, times-room}
+use Rattle.picture.proofs.Patches.{patch-none, patch-step}
+use Rattle.rows.specs.Pixel.{lentPixel}
+use Rattle.line.specs.declared.Line.the-variants as L
+use Rattle.rows.proofs.Pixels.{pixel-is, four, plain}
+use borrow.Author.Needs.{needs}
+use Rattle.rows.proofs.draw_plain.Statement.{statement}
+use Rattle.rows.proofs.draw_plain.Tie as tie
+
+abbrev Inv-loop : tie.InvT-loop
+Inv-loop positions values v w h buf₀ n j₀ o₀ last₀ buf j o last =
+    (buf ≡ patched buf₀ 0 (strip (lentPixel positions values (L.Straight v) w h) w 0 j)) × (o ≡ 4 * w * j) × (j ≤ h) × (length buf ≡ length buf₀)
+
+abbrev μ-loop : tie.MeasureT-loop
+μ-loop positions values v w h buf₀ n j₀ o₀ last₀ buf j o last = h - j
+
+mul-n : tie.Need-mul-n Inv-loop μ-loop
+mul-n c = search needs
+
+loop-holds : tie.Need-loop-holds Inv-loop μ-loop
+loop-holds c = (rw strip-none (patch-none (now (c .before .before .before .args .buf)) 0), rw mul-zero, omega arith, refl)
+
+locate-requires : tie.Need-locate-requires Inv-loop μ-loop
+locate-requires c κs = (c .before .before .before .before .before .pre .0 .placed, omega (arith, c .before .before .before .before .before .pre .0 .placed .box .some-width), omega arith)
+
+add-color-at : tie.Need-add-color-at Inv-loop μ-loop
+add-color-at c = omega (arith, c .locate .ensures .1)
+
+color-at-requires : tie.Need-color-at-requires Inv-loop μ-loop
+color-at-requires c κs = search needs
+
+fill-row-requires : tie.Need-fill-row-requires Inv-loop μ-loop
+fill-row-requires c κs =
+    let s = c .before .before .before .before .before .before .before .before in
+    omega (arith, one-more (4 * s .args .w) (s .args .h) (c .before .before .before .before .loop .j) (omega arith))
+
+add-o : tie.Need-add-o Inv-loop μ-loop
+add-o c =
+    let a = c .before .before .before .before .before .before .before .before .before .before .before .args in
+    omega (arith, one-more (4 * a .w) (a .h) (c .before .before .before .before .before .before .before .loop .j) (omega arith))
+
+add-j : tie.Need-add-j Inv-loop μ-loop
+add-j c = omega arith
+
+loop-less : tie.Need-loop-less Inv-loop μ-loop
+loop-less c = omega arith
+
+loop-again : tie.Need-loop-again Inv-loop μ-loop
+loop-again c =
+    let a = c .before .before .before .before .before .before .before .before .before .before .before .args in
+    let l = c .before .before .before .before .before .before .before .loop in
+    let k = L.Straight (a .v) in
+    let px : (ℕ → ℕ → List ℕ) = lentPixel (a .positions .now) (a .values .now) k (a .w) (a .h) in
+    let p = pixel-is (a .positions .now) (a .values .now) k (a .w) (a .h) 0 (l .j) _ _ (c .before .before .before .before .before .locate .ensures .0) (c .before .before .before .before .color-at .ensures) in (
+      rows-turn px (four (a .positions .now) (a .values .now) k (a .w) (a .h)) (a .w) (a .h) (l .j) (l .o) (now (a .buf)) (l .buf) _ _
+          (omega arith) (l .inv .1) (c .before .before .before .before .before .before .before .before .before .before .before .pre .2) (l .inv .0)
+          (ap (copies (a .w)) p ∙ sym (plain (a .positions .now) (a .values .now) (a .v) (a .w) (a .h) (c .before .before .before .before .before .before .before .before .before .before .before .pre .1) (l .j))) (c .before .before .fill-row .ensures),
+      omega arith,
+      omega arith,
+      omega arith,
+    )
+
+same-length : tie.Need-same-length Inv-loop μ-loop
+same-length c = c .before .loop .inv .3
+
+returns : tie.Need-returns Inv-loop μ-loop
+returns c =
+    let e : c .before .loop .j ≡ c .before .before .before .before .before .args .h = omega arith in
+    rw e at (c .before .loop .inv .0)
+
+pub draw-plain-spec : {M : Type 1} → statement M
+draw-plain-spec =
+    tie.close
+    (tie.spec
+    Inv-loop
+    μ-loop
+    mul-n
+    loop-holds
+    locate-requires
+    add-color-at
+    color-at-requires
+    fill-row-requires
+    add-o
+    add-j
+    loop-less
+    loop-again
+    same-length
+    returns)

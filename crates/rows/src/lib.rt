@@ -1,0 +1,115 @@
+// Draws the rows of a picture into a lent buffer, from a held line and placed stops that are lent as two slices of numbers.
+use color::Rgba;
+use line::HeldVector;
+use line::Line;
+ghost use mathlib.Core.Path.{_≡_};
+ghost use Prim.Native.Nat.{_+_, _*_, _≤_, _<_};
+ghost use lib.ListN.{length};
+ghost use Rattle.picture.specs.Picture.{row, picture, patched};
+ghost use Rattle.color.specs.Byte.{bytes};
+ghost use Rattle.line.specs.Location.{locationBy};
+ghost use Rattle.line.specs.Held.{ruleIn};
+ghost use Rattle.rows.specs.Pixel.{Placed, Drawable, lentPixel};
+
+// The location of pixel (i, j). The guess changes only the time.
+fn locate(l: Line, w: usize, h: usize, i: usize, j: usize, guess: u32) -> u32
+    requires { ⌜ Placed l w h × (i < w) × (j < h) ⌝ }
+    ensures { λ r. ⌜ (r ≡ locationBy (ruleIn l w h) i j) × (r ≤ 94906265) ⌝ }
+{
+    line::location(l, w, h, i, j, guess) as u32
+}
+
+fn put_pixel(buf: &mut [u8], at: usize, p: Rgba)
+    requires { ⌜ at + 4 ≤ length (now buf) ⌝ }
+    ensures { λ _. ⌜ now (buf .exit) ≡ patched (now (buf .entry)) at (bytes p) ⌝ }
+{
+    picture::put(buf, at, p.red, p.green, p.blue, p.alpha);
+}
+
+// Draws row j from `at` on.
+pub fn draw_row(
+    positions: &[u32],
+    values: &[u32],
+    l: Line,
+    w: usize,
+    h: usize,
+    j: usize,
+    at: usize,
+    buf: &mut [u8],
+)
+    requires { ⌜ Drawable (now positions) (now values) l w h × (j < h) × (at + 4 * w ≤ length (now buf)) ⌝ }
+    ensures { λ _. ⌜ now (buf .exit) ≡ patched (now (buf .entry)) at (row (lentPixel (now (positions .entry)) (now (values .entry)) l w h) w j) ⌝ }
+{
+    let mut i = 0;
+    let mut o = at;
+    let mut last: u32 = 0;
+    let mut p = color::clear();
+    while i < w {
+        last = locate(l, w, h, i, j, last);
+        p = color::color_near(positions, values, 33554432 + last, p);
+        put_pixel(buf, o, p);
+        o += 4;
+        i += 1;
+    }
+}
+
+// Draws all rows from the buffer's start, one after the other.
+fn draw_each(positions: &[u32], values: &[u32], l: Line, w: usize, h: usize, buf: &mut [u8])
+    requires { ⌜ Drawable (now positions) (now values) l w h × (4 * w * h ≤ length (now buf)) ⌝ }
+    ensures { λ _. ⌜ now (buf .exit) ≡ patched (now (buf .entry)) 0 (picture (lentPixel (now (positions .entry)) (now (values .entry)) l w h) w h) ⌝ }
+{
+    let n = 4 * w;
+    let mut j = 0;
+    let mut o = 0;
+    while j < h {
+        draw_row(positions, values, l, w, h, j, o, buf);
+        o += n;
+        j += 1;
+    }
+}
+
+// Draws the rows where they are all alike: the first, and copies of it.
+fn draw_alike(positions: &[u32], values: &[u32], v: HeldVector, w: usize, h: usize, buf: &mut [u8])
+    requires { ⌜ Drawable (now positions) (now values) (Line.Straight v) w h × (v .y ≡ 0) × (4 * w * h ≤ length (now buf)) ⌝ }
+    ensures { λ _. ⌜ now (buf .exit) ≡ patched (now (buf .entry)) 0 (picture (lentPixel (now (positions .entry)) (now (values .entry)) (Line.Straight v) w h) w h) ⌝ }
+{
+    draw_row(positions, values, Line::Straight(v), w, h, 0, 0, buf);
+    picture::copy_rows(buf, 0, 4 * w, h);
+}
+
+// Draws the rows where each is one pixel over and over.
+fn draw_plain(positions: &[u32], values: &[u32], v: HeldVector, w: usize, h: usize, buf: &mut [u8])
+    requires { ⌜ Drawable (now positions) (now values) (Line.Straight v) w h × (v .x ≡ 0) × (4 * w * h ≤ length (now buf)) ⌝ }
+    ensures { λ _. ⌜ now (buf .exit) ≡ patched (now (buf .entry)) 0 (picture (lentPixel (now (positions .entry)) (now (values .entry)) (Line.Straight v) w h) w h) ⌝ }
+{
+    let n = 4 * w;
+    let mut j = 0;
+    let mut o = 0;
+    let mut last: u32 = 0;
+    while j < h {
+        last = locate(Line::Straight(v), w, h, 0, j, last);
+        let p = color::color_at(positions, values, 33554432 + last);
+        picture::fill_row(buf, o, w, p.red, p.green, p.blue, p.alpha);
+        o += n;
+        j += 1;
+    }
+}
+
+// Draws the picture from the buffer's start.
+pub fn draw_picture(positions: &[u32], values: &[u32], l: Line, w: usize, h: usize, buf: &mut [u8])
+    requires { ⌜ Drawable (now positions) (now values) l w h × (4 * w * h ≤ length (now buf)) ⌝ }
+    ensures { λ _. ⌜ now (buf .exit) ≡ patched (now (buf .entry)) 0 (picture (lentPixel (now (positions .entry)) (now (values .entry)) l w h) w h) ⌝ }
+{
+    match l {
+        Line::Straight(v) => {
+            if v.x == 0 {
+                draw_plain(positions, values, v, w, h, buf);
+            } else if v.y == 0 {
+                draw_alike(positions, values, v, w, h, buf);
+            } else {
+                draw_each(positions, values, l, w, h, buf);
+            }
+        }
+        Line::Circle(_) => draw_each(positions, values, l, w, h, buf),
+    }
+}

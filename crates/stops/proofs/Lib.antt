@@ -1,0 +1,3 @@
+pub mod Order
+pub mod Rising
+pub mod Laws

@@ -1,0 +1,169 @@
+#!/usr/bin/env python3
+"""The lines that the program `charts` prints, found from document 01's rules alone.
+
+Reading is that of tests/reading/independent.py. Everything after it, the gradient line, the placing of stops and the colors, is written here
+once more, with Python's whole numbers and fractions.
+
+    independent.py                  prints the lines
+    independent.py --compare FILE   compares them with a file
+"""
+import math
+import re
+import sys
+from fractions import Fraction
+from pathlib import Path
+
+sys.path.insert(0, str(Path(__file__).parents[1] / "reading"))
+from independent import read  # noqa: E402
+
+# width, height, length of the buffer, text
+CHARTS = [
+    (4, 1, 20, "linear-gradient(to right, black, white)"),
+    (2, 1, 8, "linear-gradient(to right, red, transparent)"),
+    (3, 4, 50, "linear-gradient(to top right, black, white)"),
+    (1, 16, 64, "linear-gradient(red 40%, white, black, blue)"),
+    (5, 3, 60, "linear-gradient(to left, red -50%, white, blue)"),
+    (4, 4, 64, "linear-gradient(200.25deg, red 2px, white 0px, #00f8 4px)"),
+    (1, 1, 4, "radial-gradient(circle at 0.5px 0.5px, red -50px, yellow 100px)"),
+    (4, 4, 64, "radial-gradient(circle closest-side at 30% 40%, red, lime 1px, blue 1px, #1234)"),
+    (0, 1, 8, "linear-gradient(red, blue)"),
+    (1, 2049, 8, "linear-gradient(red, blue)"),
+    (2, 2, 15, "linear-gradient(red, blue)"),
+    (1, 1, 0, "linear-gradient(red, blue)"),
+    (1, 1, 6, "linear-gradient(red, blue"),
+    (1, 1, 6, "linear-gradient(45.1deg, red, blue)"),
+]
+
+# What document 01 itself says of three of them (P1, P2 and P9): the bytes from the start on.
+STATED = {
+    0: [32, 32, 32, 255, 96, 96, 96, 255, 159, 159, 159, 255, 223, 223, 223, 255],
+    1: [191, 0, 0, 191, 64, 0, 0, 64],
+    6: [255, 85, 0, 255],
+}
+
+SIDES = {"top": (0, -1), "right": (1, 0), "bottom": (0, 1), "left": (-1, 0)}
+
+
+def units(word, whole):
+    """A written length or percentage in 64ths of a pixel; percentages are of a whole number of them."""
+    amount = Fraction(word.rstrip("px%"))
+    return math.floor(amount * whole / 100 if word.endswith("%") else amount * 64)
+
+
+class Linear:
+    def __init__(self, words, width, height):
+        self.box = (width, height)
+        self.vector = self.direction(words)
+        x, y = self.vector
+        self.norm = x * x + y * y
+        self.reach = width * abs(x) + height * abs(y)
+        self.length = math.isqrt((64 * self.reach) ** 2 // self.norm)
+
+    def direction(self, words):
+        if words[0].endswith("deg"):
+            angle = math.radians(float(words[0][:-3]))
+            return round(16384 * math.sin(angle)), round(-16384 * math.cos(angle))
+        if len(words) == 2:
+            return SIDES[words[1]]
+        (_, down), (across, _) = SIDES[words[1]], SIDES[words[2]]
+        return across * self.box[1], down * self.box[0]
+
+    def location(self, i, j):
+        (x, y), (width, height) = self.vector, self.box
+        twice = (2 * i + 1 - width) * x + (2 * j + 1 - height) * y + self.reach
+        return math.isqrt((32 * twice) ** 2 // self.norm)
+
+
+class Circle:
+    def __init__(self, words, width, height):
+        size, _, *center = words
+        self.center = [units(word, 64 * pixels) for word, pixels in zip(center, (width, height))]
+        sides = [(abs(c), abs(64 * pixels - c)) for c, pixels in zip(self.center, (width, height))]
+        self.length = {
+            "closest-side": min(map(min, sides)),
+            "farthest-corner": math.isqrt(sum(max(pair) ** 2 for pair in sides)),
+        }[size]
+
+    def location(self, i, j):
+        return math.isqrt((64 * i + 32 - self.center[0]) ** 2 + (64 * j + 32 - self.center[1]) ** 2)
+
+
+def place(written, length):
+    spots = [units(word, length) if word else None for word in written]
+    spots[0] = 0 if spots[0] is None else spots[0]
+    spots[-1] = length if spots[-1] is None else spots[-1]
+    placed = [k for k, spot in enumerate(spots) if spot is not None]
+    for k in placed:
+        spots[k] = max(spots[m] for m in placed if m <= k)
+    for a, b in zip(placed, placed[1:]):
+        for k in range(a + 1, b):
+            spots[k] = spots[a] + math.floor(Fraction((spots[b] - spots[a]) * (k - a), b - a))
+    return spots
+
+
+def pixel(stops, s):
+    """Four bytes; a stop is its position and its four premultiplied channels, 255 times too large."""
+    reached = [k for k, (position, _) in enumerate(stops) if position <= s]
+    if not reached or reached[-1] == len(stops) - 1:
+        channels = [Fraction(p, 255) for p in stops[reached[-1] if reached else 0][1]]
+    else:
+        (a, p), (b, q) = stops[reached[-1]], stops[reached[-1] + 1]
+        channels = [Fraction(u * (b - s) + v * (s - a), 255 * (b - a)) for u, v in zip(p, q)]
+    return [math.floor(channel + Fraction(1, 2)) for channel in channels]
+
+
+def premultiplied(digits):
+    *color, alpha = bytes.fromhex(digits)
+    return [channel * alpha for channel in color] + [255 * alpha]
+
+
+def picture(line, width, height):
+    head, *stops = line[2:].split(" | ")
+    kind, *words = head.split()
+    shape = (Linear if kind == "linear" else Circle)(words, width, height)
+    written = [(stop.split() + [None])[:2] for stop in stops]
+    placed = place([position for _, position in written], shape.length)
+    stops = [(position, premultiplied(color[1:])) for position, (color, _) in zip(placed, written)]
+    return [byte for j in range(height) for i in range(width) for byte in pixel(stops, shape.location(i, j))]
+
+
+def draw(width, height, room, text):
+    """The reply and the bytes left in a buffer."""
+    if not (1 <= width <= 2048 and 1 <= height <= 2048):
+        return 1, [0] * room
+    if room < 4 * width * height:
+        return 2, [0] * room
+    line = read(text.encode())
+    if not line.startswith("0 "):
+        return int(line[0]), [0] * room
+    drawn = picture(line, width, height)
+    return 0, drawn + [0] * (room - len(drawn))
+
+
+def lines():
+    for k, (width, height, room, text) in enumerate(CHARTS):
+        reply, left = draw(width, height, room, text)
+        stated = STATED.get(k, [])
+        assert left[: len(stated)] == stated, f"chart {k} is not what document 01 says"
+        yield f"{width}x{height} in {room} {text}"
+        yield f"{reply}:" + "".join(f" {byte}" for byte in left)
+
+
+def main():
+    found = list(lines())
+    if sys.argv[1:2] != ["--compare"]:
+        print("\n".join(found))
+        return 0
+    expected = Path(sys.argv[2]).read_text().splitlines()
+    differing = [(a, b) for a, b in zip(found, expected) if a != b]
+    for a, b in differing:
+        print(f"from the rules: {a}\nin the file:    {b}")
+    if differing or len(found) != len(expected):
+        print(f"drawing: {len(differing)} lines differ; {len(found)} lines from the rules, {len(expected)} in the file")
+        return 1
+    print(f"drawing: {len(CHARTS)} charts agree")
+    return 0
+
+
+if __name__ == "__main__":
+    sys.exit(main())
