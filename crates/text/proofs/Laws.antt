@@ -1,6 +1,6 @@
 -- Laws of the rest of a text and of readings, each over any class of bytes and any type of value.
 -- Assumes nothing.
-use mathlib.Core.Path.{_≡_, refl, sym, ap, subst, _∙_}
+use mathlib.Core.Path.{_≡_, refl, sym, ap, _∙_}
 use mathlib.Core.List.{List, [], _∷_, _++_}
 use mathlib.Core.Bool.{Bool, true, false, cond, _&&_, true≢false, false≢true}
 use Prim.Native.Nat.{ℕ, suc, _+_, _≤_, _<_}
@@ -28,6 +28,20 @@ module _ {A B : Type 0} (f : A → List ℕ → Read B) {r : Read A} where
 
   pub bind-refused : refused ≡ r → refused ≡ (r >>= f)
   bind-refused h = rw (← h)
+
+-- readings one after the other: grouped either way, after a change, and with equal continuations
+pub bind-bind : {A B C : Type 0} (f : A → List ℕ → Read B) (g : B → List ℕ → Read C) (r : Read A)
+    → ((r >>= f) >>= g) ≡ (r >>= λ a l. f a l >>= g)
+bind-bind f g (got a l) = refl
+bind-bind f g refused = refl
+
+pub bind-map : {A B C : Type 0} (g : A → B) (f : B → List ℕ → Read C) (r : Read A) → (mapRead g r >>= f) ≡ (r >>= λ a l. f (g a) l)
+bind-map g f (got a l) = refl
+bind-map g f refused = refl
+
+pub bind-same : {A B : Type 0} (f f′ : A → List ℕ → Read B) → ((a : A) (l : List ℕ) → f a l ≡ f′ a l) → (r : Read A) → (r >>= f) ≡ (r >>= f′)
+bind-same f f′ e (got a l) = e a l
+bind-same f f′ e refused = refl
 
 -- one reading or another, by what the first one finds
 module _ {A : Type 0} {r : Read A} where
@@ -72,42 +86,55 @@ pub map-same : {A : Type 0} (h : A → A) → ((a : A) → h a ≡ a) → (r : R
 map-same h e (got a l) = ap (λ x. got x l) (e a)
 map-same h e refused = refl
 
-pub bind-map : {A B C : Type 0} (g : A → B) (f : B → List ℕ → Read C) (r : Read A) → (mapRead g r >>= f) ≡ (r >>= λ a l. f (g a) l)
-bind-map g f (got a l) = refl
-bind-map g f refused = refl
-
-pub bind-same : {A B : Type 0} (f f′ : A → List ℕ → Read B) → ((a : A) (l : List ℕ) → f a l ≡ f′ a l) → (r : Read A) → (r >>= f) ≡ (r >>= f′)
-bind-same f f′ e (got a l) = e a l
-bind-same f f′ e refused = refl
-
 -- a reading either gets something or does not
 pub got-refused : {A : Type 0} {a : A} {k : List ℕ} → got a k ≡ refused → ⊥
 got-refused e = let w : _≡_ {A = ℕ} 0 1 = cc in omega arith
 
--- what holds of everything changed holds of what is got
-pub map-holds : {A B : Type 0} (h : A → B) (P : B → Type 0) → ((a : A) → P (h a)) → {b : B} {k : List ℕ} (r : Read A) → got b k ≡ mapRead h r → P b
-map-holds h P p {b} (got a l) e = let q : h a ≡ b = cc in subst P q (p a)
-map-holds h P p refused e = absurd (got-refused e)
+-- P holds of what a reading gets, if it gets something
+abbrev pub Gets : {A : Type 0} → (A → Type 0) → Read A → Type 0
+Gets P (got a l) = P a
+Gets P refused = Unit {0}
 
--- readings one after the other, grouped either way
-pub bind-bind : {A B C : Type 0} (f : A → List ℕ → Read B) (g : B → List ℕ → Read C) (r : Read A)
-    → ((r >>= f) >>= g) ≡ (r >>= λ a l. f a l >>= g)
-bind-bind f g (got a l) = refl
-bind-bind f g refused = refl
+pub gets-is : {A : Type 0} (P : A → Type 0) {a : A} {k : List ℕ} {r : Read A} → got a k ≡ r → Gets P r → P a
+gets-is P e p = rw (← e) at p
+
+pub gets-any : {A : Type 0} (P : A → Type 0) → ((a : A) → P a) → (r : Read A) → Gets P r
+gets-any P p (got a l) = p a
+gets-any P p refused = tt
+
+pub gets-map : {A B : Type 0} (P : A → Type 0) (Q : B → Type 0) (h : A → B) → ((a : A) → P a → Q (h a)) → (r : Read A) → Gets P r → Gets Q (mapRead h r)
+gets-map P Q h f (got a l) p = f a p
+gets-map P Q h f refused p = tt
+
+pub gets-mapped : {A B : Type 0} (Q : B → Type 0) (h : A → B) → ((a : A) → Q (h a)) → (r : Read A) → Gets Q (mapRead h r)
+gets-mapped Q h f (got a l) = f a
+gets-mapped Q h f refused = tt
+
+pub gets-bind : {A B : Type 0} (P : A → Type 0) (Q : B → Type 0) (f : A → List ℕ → Read B) → ((a : A) (l : List ℕ) → P a → Gets Q (f a l)) → (r : Read A) → Gets P r → Gets Q (r >>= f)
+gets-bind P Q f g (got a l) p = g a l p
+gets-bind P Q f g refused p = tt
+
+pub gets-or : {A : Type 0} (P : A → Type 0) (r t : Read A) → Gets P r → Gets P t → Gets P (r orRead t)
+gets-or P (got a l) t p q = p
+gets-or P refused t p q = q
+
+pub gets-cond : {A : Type 0} (P : A → Type 0) (b : Bool) (r t : Read A) → Gets P r → Gets P t → Gets P (cond b r t)
+gets-cond P true r t p q = p
+gets-cond P false r t p q = q
 
 -- the text l from its place i on
 module _ (l : List ℕ) (i : ℕ) where
-  pub peek-at : i < length l → getD l i 0 ≡ peekOf (drop i l)
+  pub peek-in : i < length l → getD l i 0 ≡ peekOf (drop i l)
   unfolding peekOf
-  peek-at h = rw (drop-cons l i 0)
+  peek-in h = rw (drop-cons l i 0)
 
   pub peek-end : length l ≤ i → 0 ≡ peekOf (drop i l)
   unfolding peekOf
   peek-end h = rw (drop-of-length-le l)
 
-  pub rest-at : i < length l → drop (i + 1) l ≡ restOf (drop i l)
+  pub rest-in : i < length l → drop (i + 1) l ≡ restOf (drop i l)
   unfolding restOf
-  rest-at h = rw (add-one, drop-cons l i 0)
+  rest-in h = rw (add-one, drop-cons l i 0)
 
   pub rest-end : length l ≤ i → drop i l ≡ restOf (drop i l)
   unfolding restOf

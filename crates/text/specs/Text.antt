@@ -77,7 +77,7 @@ gapOf l = cond (isSpace (peekOf l)) (got tt (past isSpace l)) refused
 unfoldable pub lower : ℕ → ℕ
 lower b = cond (inRange "A" "Z" b) (b + 32) b
 
--- "Letters match without regard to ASCII case": a word, given in lower case, at the front of the text
+-- "Letters match without regard to ASCII case": a word, given in lower case and with no byte 0, at the front of the text
 unfoldable pub keywordOf : List ℕ → List ℕ → Read (Unit {0})
 keywordOf [] l = got tt l
 keywordOf (k ∷ ks) l = cond (eqb (lower (peekOf l)) k) (keywordOf ks (restOf l)) refused

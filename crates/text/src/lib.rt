@@ -1,6 +1,6 @@
 // Reading a text of bytes at a cursor. Each contract speaks of the rest of the text, from the cursor on; no cursor is out of bounds.
 ghost use mathlib.Core.Path.{_≡_};
-ghost use lib.ListN.{drop};
+ghost use lib.ListN.{drop, getD};
 ghost use Rattle.text.specs.Text.{peekOf, restOf, isNil, past, isSpace, gapOf, lower, keywordOf};
 ghost use Rattle.text.specs.View.{viewMatch};
 
@@ -20,6 +20,19 @@ pub fn peek(s: &[u8], c: Cursor) -> u8
 {
     let at = c.at;
     if at < s.len() { s[at] } else { 0 }
+}
+
+// The byte that stands i places on from the cursor, 0 past the end.
+pub fn peek_at(s: &[u8], c: Cursor, i: usize) -> u8
+    ensures { λ r. ⌜ r ≡ getD (drop (c .at) (now (s .entry))) i 0 ⌝ }
+{
+    let at = c.at;
+    if at < s.len() {
+        if i < s.len() - at {
+            return s[at + i];
+        }
+    }
+    0
 }
 
 // The cursor one byte on; at the end it stays.

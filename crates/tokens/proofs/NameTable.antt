@@ -2,64 +2,59 @@
 -- Assumes nothing.
 use mathlib.Core.Path.{_≡_, refl, sym, ap, _∙_}
 use mathlib.Core.Bool.{Bool, true, false, not, _&&_, _||_, false≢true}
-use mathlib.Core.List.{List, [], _∷_, map}
-use Prim.Native.Nat.{ℕ, zero, suc, _-_, _≤_, _<_}
+use mathlib.Core.List.{List, [], _∷_}
+use Prim.Native.Nat.{ℕ, zero, suc, _+_, _-_, _≤_, _<_}
 use native.Mathlib.Omega.{arith}
 use lib.Dec.{leb}
-use lib.ListN.{length, getD, take, drop, List·getD-map}
+use lib.ListN.{length, getD, take, drop, replicate, getD-replicate}
 use borrow.Author.Tests.{leb-true, eq-eqb}
 use Rattle.gradient.specs.Lists.{all}
 use Rattle.text.specs.Text.{bytes, restOf, Read, got, refused, _>>=_, _orRead_, keywordOf}
 use Rattle.text.proofs.Laws.{got-refused, keyword-letter}
 use Rattle.gradient.specs.declared.Color.{Color}
-use Rattle.tokens.specs.Color.{Row, colorNames, rowAt, fromRgba, rowOf, namedOf, begins, apart}
-use Rattle.tokens.specs.declared.Name.{Name}
+use Rattle.tokens.specs.Color.{Row, colorNames, noRow, rowAt, rowOf, namedOf, begins, apart}
+use Rattle.tokens.specs.View.{fromRgba}
 
-abbrev at : ℕ → ℕ → ℕ → Name
-at from to rgba = (from, to, rgba)
-
--- the letters of all names, and where each name starts and ends among them, with its color
+-- the code's tables: the letters of all names, where each name starts among them, and its color
 abbrev pub letters : List ℕ
 letters = bytes "aqua black blue fuchsia gray green lime maroon navy olive purple red silver teal white yellow transparent"
 
-abbrev pub names : List Name
-names =
-    at 0 4 0x00ffff_ff ∷
-    at 5 10 0x000000_ff ∷
-    at 11 15 0x0000ff_ff ∷
-    at 16 23 0xff00ff_ff ∷
-    at 24 28 0x808080_ff ∷
-    at 29 34 0x008000_ff ∷
-    at 35 39 0x00ff00_ff ∷
-    at 40 46 0x800000_ff ∷
-    at 47 51 0x000080_ff ∷
-    at 52 57 0x808000_ff ∷
-    at 58 64 0x800080_ff ∷
-    at 65 68 0xff0000_ff ∷
-    at 69 75 0xc0c0c0_ff ∷
-    at 76 80 0x008080_ff ∷
-    at 81 86 0xffffff_ff ∷
-    at 87 93 0xffff00_ff ∷
-    at 94 105 0x000000_00 ∷
-    []
+abbrev pub start : ℕ → ℕ
+start i = getD (0 ∷ 5 ∷ 11 ∷ 16 ∷ 24 ∷ 29 ∷ 35 ∷ 40 ∷ 47 ∷ 52 ∷ 58 ∷ 65 ∷ 69 ∷ 76 ∷ 81 ∷ 87 ∷ 94 ∷ 106 ∷ []) i 0
 
-abbrev pub nameAt : ℕ → Name
-nameAt i = getD names i (at 0 0 0)
+abbrev pub rgba : ℕ → ℕ
+rgba i =
+    getD
+    (0x00ffff_ff ∷ 0x000000_ff ∷ 0x0000ff_ff ∷ 0xff00ff_ff ∷ 0x808080_ff ∷ 0x008000_ff ∷ 0x00ff00_ff ∷ 0x800000_ff ∷
+    0x000080_ff ∷ 0x808000_ff ∷ 0x800080_ff ∷ 0xff0000_ff ∷ 0xc0c0c0_ff ∷ 0x008080_ff ∷ 0xffffff_ff ∷ 0xffff00_ff ∷ 0x000000_00 ∷ [])
+    i 0
 
--- the row that a row of the code stands for
-abbrev rowFrom : Name → Row
-rowFrom n = record { name = take (n .1 - n .0) (drop (n .0) letters); rgba = n .2 }
+abbrev word : ℕ → List ℕ
+word i = take (start (i + 1) - 1 - start i) (drop (start i) letters)
+
+-- what f gives for n numbers from a on
+abbrev table : {A : Type 0} → (ℕ → A) → ℕ → ℕ → List A
+table f a zero = []
+table f a (suc n) = f a ∷ table f (suc a) n
+
+table-at : {A : Type 0} (f : ℕ → A) (a n i k : ℕ) (d : A) → i < n → a + i ≡ k → getD (table f a n) i d ≡ f k
+table-at f a zero i k d h e = absurd (omega arith)
+table-at f a (suc n) zero k d h e = ap f (omega arith)
+table-at f a (suc n) (suc i) k d h e = table-at f (suc a) n i k d (omega arith) (omega arith)
 
 -- the two tables are the same
-same : map rowFrom names ≡ colorNames
+abbrev codeRow : ℕ → Row
+codeRow i = record { name = word i; color = fromRgba (rgba i) }
+
+same : table codeRow 0 17 ≡ colorNames
 unfolding colorNames
 same = refl
 
--- each name lies within the letters
-inside : Name → Bool
-inside n = leb (n .0) (n .1) && leb (n .1) 105
+-- and each name lies within the letters
+inside : ℕ → Bool
+inside i = leb (start i + 1) (start (i + 1)) && leb (start (i + 1)) 106
 
-all-inside : all inside names ≡ true
+all-inside : table inside 0 17 ≡ replicate 17 true
 unfolding inside
 all-inside = refl
 
@@ -67,30 +62,30 @@ both : {a b : Bool} → (a && b) ≡ true → (a ≡ true) × (b ≡ true)
 both {a = true} e = (refl, e)
 both {a = false} e = absurd (false≢true e)
 
+-- the code's row i
+pub record Fit (i : ℕ) : Type 0 where
+  pub order : start i + 1 ≤ start (i + 1)
+  pub within : start (i + 1) ≤ 106
+  pub name : word i ≡ rowAt i .name
+  pub color : fromRgba (rgba i) ≡ rowAt i .color
+
+pub fit : (i : ℕ) → i < 17 → Fit i
+unfolding inside
+fit i h =
+    let t : inside i ≡ true = sym (table-at inside 0 17 i i true h (omega arith)) ∙ ap (λ (l : List Bool). getD l i true) all-inside ∙ getD-replicate 17 i true true h in
+    let e : codeRow i ≡ rowAt i = sym (table-at codeRow 0 17 i i noRow h (omega arith)) ∙ ap (λ (l : List Row). getD l i noRow) same in
+    record {
+      order = leb-true _ _ (both {a = leb (start i + 1) (start (i + 1))} t .0);
+      within = leb-true _ _ (both {a = leb (start i + 1) (start (i + 1))} t .1);
+      name = ap (λ (r : Row). r .name) e;
+      color = ap (λ (r : Row). r .color) e;
+    }
+
 -- what holds of each element of a list holds at each place
 at-each : {A : Type 0} (p : A → Bool) (l : List A) (d : A) → all p l ≡ true → (i : ℕ) → i < length l → p (getD l i d) ≡ true
 at-each p [] d t i h = absurd (omega arith)
 at-each p (x ∷ l) d t zero h = both t .0
 at-each p (x ∷ l) d t (suc i) h = at-each p l d (both {a = p x} t .1) i (omega arith)
-
--- the code's row i
-pub record Fit (i : ℕ) : Type 0 where
-  pub order : nameAt i .0 ≤ nameAt i .1
-  pub within : nameAt i .1 ≤ 105
-  pub word : take (nameAt i .1 - nameAt i .0) (drop (nameAt i .0) letters) ≡ rowAt i .name
-  pub color : nameAt i .2 ≡ rowAt i .rgba
-
-pub fit : (i : ℕ) → i < 17 → Fit i
-unfolding inside
-fit i h =
-    let t = both (at-each inside names (at 0 0 0) all-inside i h) in
-    let e : rowFrom (nameAt i) ≡ rowAt i = sym (List·getD-map rowFrom names i (at 0 0 0)) ∙ ap (λ (l : List Row). getD l i (rowFrom (at 0 0 0))) same in
-    record {
-      order = leb-true _ _ (t .0);
-      within = leb-true _ _ (t .1);
-      word = ap (λ (r : Row). r .name) e;
-      color = ap (λ (r : Row). r .rgba) e;
-    }
 
 -- of two words that stand at the front of one text, one begins the other
 two-words : {k m : List ℕ} (a b l : List ℕ) → got tt k ≡ keywordOf a l → got tt m ≡ keywordOf b l → (begins a b || begins b a) ≡ true
@@ -116,7 +111,7 @@ row-word : {x : Color} {k : List ℕ} (w : Row) (l : List ℕ) → got x k ≡ r
 unfolding rowOf
 row-word {x} {k} w l h = go (keywordOf (w .name) l) h
   where
-    go : (r : Read (Unit {0})) → got x k ≡ (r >>= λ _ m. got (fromRgba (w .rgba)) m) → got tt k ≡ r
+    go : (r : Read (Unit {0})) → got x k ≡ (r >>= λ _ m. got (w .color) m) → got tt k ≡ r
     go (got u m) e = let q : k ≡ m = cc in ap (λ (z : List ℕ). got tt z) q
     go refused e = absurd (got-refused e)
 

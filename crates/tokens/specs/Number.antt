@@ -29,11 +29,12 @@ isNegative l = is "-" (peekOf l)
 unfoldable pub afterSign : List ℕ → List ℕ
 afterSign l = cond (is "+" (peekOf l) || is "-" (peekOf l)) (restOf l) l
 
+-- a magnitude with its sign
 abbrev pub signed : Bool → ℕ → ℤ
 signed true n = negℤ (pos n)
 signed false n = pos n
 
--- "1 to 3 digits after" the point: the digits, and the rest after them
+-- "1 to 3 digits after it", the point, in thousandths: the digits are read, and the rest follows them
 unfoldable pub thousandths : List ℕ → List ℕ → Read ℕ
 thousandths digits rest = cond (leb 1 (length digits) && leb (length digits) 3) (got (decimal 0 digits * 10 ^ (3 - length digits)) rest) refused
 
@@ -51,10 +52,11 @@ magnitudeOf l =
 unfoldable pub unitOf : ℕ → List ℕ → Read Unit
 unitOf n l = wordFor "px" Length l orRead wordFor "%" Percentage l orRead wordFor "deg" Angle l orRead cond (eqb n 0) (got Length l) refused
 
+-- a value with its unit
 abbrev pub number : ℤ → Unit → Number
 number z u = record { value = z; unit = u }
 
--- the sign, the magnitude and the unit; `keep` is how the value is kept
+-- the sign, the magnitude and the unit; `keep` is what is kept of the value
 unfoldable pub numberOf : (ℤ → ℤ) → List ℕ → Read Number
 numberOf keep l = magnitudeOf (afterSign l) >>= λ n k. unitOf n k >>= λ u e. got (number (keep (signed (isNegative l) n)) u) e
 
@@ -73,6 +75,6 @@ cut (negsuc n) = negℤ (pos (min (suc n) most))
 abbrev pub cutNumber : Number → Number
 cutNumber n = number (cut (n .value)) (n .unit)
 
--- a magnitude that is cut off
+-- a magnitude cut off
 abbrev pub upTo : ℕ → ℕ
 upTo n = min n most

@@ -1,13 +1,13 @@
 -- What the answers of the code mean: each case as a reading of the text, and the runs of digits that the code counts.
 -- Assumes nothing.
 use mathlib.Core.Path.{_≡_}
-use Prim.Native.Nat.{ℕ, min}
+use Prim.Native.Nat.{ℕ, _/_, _%_, min}
 use mathlib.Core.List.{List}
 use lib.ListN.{length, drop}
 use Rattle.text.specs.Text.{run, past, Read, got, refused}
 use Rattle.gradient.specs.declared.Color.{Color}
 use Rattle.tokens.specs.Number.{isDigit, decimal}
-use Rattle.tokens.specs.Color.{isHex}
+use Rattle.tokens.specs.Color.{color, isHex}
 use Rattle.tokens.specs.declared.Digits.{Digits}
 use Rattle.tokens.specs.declared.HexRun.{HexRun}
 use Rattle.tokens.specs.declared.AmountRead.{AmountRead}
@@ -19,7 +19,7 @@ use Rattle.tokens.specs.declared.Number.{Number}
 use Rattle.tokens.specs.declared.NumberRead.{NumberRead}
 use Rattle.tokens.specs.declared.NumberRead.the-variants as number
 use Rattle.tokens.specs.declared.ColorRead.{ColorRead}
-use Rattle.tokens.specs.declared.ColorRead.the-variants as color
+use Rattle.tokens.specs.declared.ColorRead.the-variants as colors
 
 abbrev pub viewAmount : List ℕ → AmountRead → Read ℕ
 viewAmount s (amount.Got n c) = got n (drop (c .at) s)
@@ -34,8 +34,8 @@ viewNumber s (number.Got n c) = got n (drop (c .at) s)
 viewNumber s number.Refused = refused
 
 abbrev pub viewColor : List ℕ → ColorRead → Read Color
-viewColor s (color.Got v c) = got v (drop (c .at) s)
-viewColor s color.Refused = refused
+viewColor s (colors.Got v c) = got v (drop (c .at) s)
+viewColor s colors.Refused = refused
 
 -- the digits at the front of l, a rest of s, with their number cut off at a million
 pub record DigitsAt (s l : List ℕ) (r : Digits) : Type 0 where
@@ -47,3 +47,7 @@ pub record DigitsAt (s l : List ℕ) (r : Digits) : Type 0 where
 pub record HexAt (s l : List ℕ) (r : HexRun) : Type 0 where
   pub count : r .count ≡ length (run isHex l)
   pub rest : drop (r .next .at) s ≡ past isHex l
+
+-- a color that the code has as rrggbbaa
+abbrev pub fromRgba : ℕ → Color
+fromRgba n = color (n / 0x1000000) (n / 0x10000 % 256) (n / 0x100 % 256) (n % 256)

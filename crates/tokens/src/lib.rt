@@ -7,8 +7,8 @@ ghost use Prim.Native.Nat.{_+_, _*_, _-_, _≤_, _<_, min};
 ghost use lib.ListN.{drop};
 ghost use Rattle.text.specs.Text.{mapRead};
 ghost use Rattle.tokens.specs.Number.{isDigit, afterSign, signed, fractionOf, magnitudeOf, unitOf, numberOf, cut, most, upTo};
-ghost use Rattle.tokens.specs.Color.{isHex, hexValue, digit, short, long, ofChannels, hexOf, rowAt, fromRgba, rowOf, namedOf, colorNames, colorOf};
-ghost use Rattle.tokens.specs.View.{DigitsAt, HexAt, viewAmount, viewUnit, viewNumber, viewColor};
+ghost use Rattle.tokens.specs.Color.{isHex, hexValue, channelOf, ofChannels, hexOf, rowAt, rowOf, namedOf, colorNames, colorOf};
+ghost use Rattle.tokens.specs.View.{DigitsAt, HexAt, fromRgba, viewAmount, viewUnit, viewNumber, viewColor};
 
 // px, % or deg.
 pub enum Unit {
@@ -45,8 +45,6 @@ pub struct HexRun {
     pub count: usize,
     pub next: Cursor,
 }
-
-pub struct Name(pub usize, pub usize, pub u32);
 
 // A number without sign and unit, in thousandths.
 pub enum AmountRead {
@@ -102,16 +100,12 @@ fn read_fraction(s: &[u8], c: Cursor) -> AmountRead
     let d = read_digits(s, c);
     let n = d.count;
     let k = d.next;
-    if n == 1 {
-        return AmountRead::Got(d.value * 100, k);
+    match n {
+        1 => AmountRead::Got(d.value * 100, k),
+        2 => AmountRead::Got(d.value * 10, k),
+        3 => AmountRead::Got(d.value, k),
+        _ => AmountRead::Refused,
     }
-    if n == 2 {
-        return AmountRead::Got(d.value * 10, k);
-    }
-    if n == 3 {
-        return AmountRead::Got(d.value, k);
-    }
-    AmountRead::Refused
 }
 
 fn up_to(n: u32) -> u32
@@ -208,9 +202,9 @@ fn hex_value(b: u8) -> u8
     ensures { λ r. ⌜ r ≡ hexValue b ⌝ }
 {
     match b {
-        b'0'..=b'9' => b - 48,
-        b'A'..=b'F' => b - 55,
-        b'a'..=b'f' => b - 87,
+        b'0'..=b'9' => b - b'0',
+        b'A'..=b'F' => b - b'A' + 10,
+        b'a'..=b'f' => b - b'a' + 10,
         _ => 0,
     }
 }
@@ -230,51 +224,25 @@ fn count_hex(s: &[u8], c: Cursor) -> HexRun
     }
 }
 
-// The digit that stands i places on from the cursor.
-fn digit_at(s: &[u8], c: Cursor, i: usize) -> u8
-    ensures { λ r. ⌜ r ≡ digit (drop (c .at) (now (s .entry))) i ⌝ }
-{
-    let at = c.at;
-    if at < s.len() {
-        if i < s.len() - at {
-            return hex_value(s[at + i]);
-        }
-    }
-    0
-}
-
-// Channel i of one digit, and of two.
-fn short_channel(s: &[u8], c: Cursor, i: usize) -> u8
-    ensures { λ r. ⌜ r ≡ short (drop (c .at) (now (s .entry))) i ⌝ }
-{
-    17 * digit_at(s, c, i)
-}
-
-fn long_channel(s: &[u8], c: Cursor, i: usize) -> u8
+// Channel i, of one digit or of two.
+fn channel(s: &[u8], c: Cursor, short: bool, i: usize) -> u8
     requires { ⌜ i < 4 ⌝ }
-    ensures { λ r. ⌜ r ≡ long (drop (c .at) (now (s .entry))) i ⌝ }
+    ensures { λ r. ⌜ r ≡ channelOf short (drop (c .at) (now (s .entry))) i ⌝ }
 {
-    16 * digit_at(s, c, 2 * i) + digit_at(s, c, 2 * i + 1)
-}
-
-fn short_color(s: &[u8], c: Cursor, alpha: u8) -> Color
-    ensures { λ r. ⌜ r ≡ ofChannels (short (drop (c .at) (now (s .entry)))) alpha ⌝ }
-{
-    Color {
-        red: short_channel(s, c, 0),
-        green: short_channel(s, c, 1),
-        blue: short_channel(s, c, 2),
-        alpha: alpha,
+    if short {
+        17 * hex_value(text::peek_at(s, c, i))
+    } else {
+        16 * hex_value(text::peek_at(s, c, 2 * i)) + hex_value(text::peek_at(s, c, 2 * i + 1))
     }
 }
 
-fn long_color(s: &[u8], c: Cursor, alpha: u8) -> Color
-    ensures { λ r. ⌜ r ≡ ofChannels (long (drop (c .at) (now (s .entry)))) alpha ⌝ }
+fn hex_color(s: &[u8], c: Cursor, short: bool, alpha: u8) -> Color
+    ensures { λ r. ⌜ r ≡ ofChannels (channelOf short (drop (c .at) (now (s .entry)))) alpha ⌝ }
 {
     Color {
-        red: long_channel(s, c, 0),
-        green: long_channel(s, c, 1),
-        blue: long_channel(s, c, 2),
+        red: channel(s, c, short, 0),
+        green: channel(s, c, short, 1),
+        blue: channel(s, c, short, 2),
         alpha: alpha,
     }
 }
@@ -287,40 +255,62 @@ fn read_hex(s: &[u8], c: Cursor) -> ColorRead
     let n = h.count;
     let k = h.next;
     match n {
-        3 => ColorRead::Got(short_color(s, c, 255), k),
-        4 => ColorRead::Got(short_color(s, c, short_channel(s, c, 3)), k),
-        6 => ColorRead::Got(long_color(s, c, 255), k),
-        8 => ColorRead::Got(long_color(s, c, long_channel(s, c, 3)), k),
+        3 => ColorRead::Got(hex_color(s, c, true, 255), k),
+        4 => ColorRead::Got(hex_color(s, c, true, channel(s, c, true, 3)), k),
+        6 => ColorRead::Got(hex_color(s, c, false, 255), k),
+        8 => ColorRead::Got(hex_color(s, c, false, channel(s, c, false, 3)), k),
         _ => ColorRead::Refused,
     }
 }
 
-// Where each name starts and ends in the text of all names, and its color as rrggbbaa.
-const NAMES: [Name; 17] = [
-    Name(0, 4, 0x00ffff_ff), // aqua
-    Name(5, 10, 0x000000_ff), // black
-    Name(11, 15, 0x0000ff_ff), // blue
-    Name(16, 23, 0xff00ff_ff), // fuchsia
-    Name(24, 28, 0x808080_ff), // gray
-    Name(29, 34, 0x008000_ff), // green
-    Name(35, 39, 0x00ff00_ff), // lime
-    Name(40, 46, 0x800000_ff), // maroon
-    Name(47, 51, 0x000080_ff), // navy
-    Name(52, 57, 0x808000_ff), // olive
-    Name(58, 64, 0x800080_ff), // purple
-    Name(65, 68, 0xff0000_ff), // red
-    Name(69, 75, 0xc0c0c0_ff), // silver
-    Name(76, 80, 0x008080_ff), // teal
-    Name(81, 86, 0xffffff_ff), // white
-    Name(87, 93, 0xffff00_ff), // yellow
-    Name(94, 105, 0x000000_00), // transparent
+// Where each name starts in the text of all names, with a place after each.
+const STARTS: [usize; 18] = [
+    0, // aqua
+    5, // black
+    11, // blue
+    16, // fuchsia
+    24, // gray
+    29, // green
+    35, // lime
+    40, // maroon
+    47, // navy
+    52, // olive
+    58, // purple
+    65, // red
+    69, // silver
+    76, // teal
+    81, // white
+    87, // yellow
+    94, // transparent
+    106,
+];
+
+// The color of each name, as rrggbbaa.
+const RGBA: [u32; 17] = [
+    0x00ffff_ff, // aqua
+    0x000000_ff, // black
+    0x0000ff_ff, // blue
+    0xff00ff_ff, // fuchsia
+    0x808080_ff, // gray
+    0x008000_ff, // green
+    0x00ff00_ff, // lime
+    0x800000_ff, // maroon
+    0x000080_ff, // navy
+    0x808000_ff, // olive
+    0x800080_ff, // purple
+    0xff0000_ff, // red
+    0xc0c0c0_ff, // silver
+    0x008080_ff, // teal
+    0xffffff_ff, // white
+    0xffff00_ff, // yellow
+    0x000000_00, // transparent
 ];
 
 fn from_rgba(n: u32) -> Color
     ensures { λ r. ⌜ r ≡ fromRgba n ⌝ }
 {
     Color {
-        red: (n / 0x1000000 % 256) as u8,
+        red: (n / 0x1000000) as u8,
         green: (n / 0x10000 % 256) as u8,
         blue: (n / 0x100 % 256) as u8,
         alpha: (n % 256) as u8,
@@ -334,13 +324,12 @@ fn read_row(s: &[u8], c: Cursor, i: usize) -> ColorRead
 {
     let names: &[u8] =
         b"aqua black blue fuchsia gray green lime maroon navy olive purple red silver teal white yellow transparent";
-    let row = NAMES[i];
-    let from = row.0;
-    let to = row.1;
+    let from = STARTS[i];
+    let to = STARTS[i + 1] - 1;
     let Match::Past(k) = text::keyword(s, c, &names[from..to]) else {
         return ColorRead::Refused;
     };
-    ColorRead::Got(from_rgba(row.2), k)
+    ColorRead::Got(from_rgba(RGBA[i]), k)
 }
 
 fn read_name(s: &[u8], c: Cursor) -> ColorRead

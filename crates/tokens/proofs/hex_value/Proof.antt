@@ -5,11 +5,11 @@ use Rattle.tokens.proofs.Hex.{hex-low, hex-digit, hex-before-upper, hex
 use Rattle.tokens.proofs.hex_value.Statement.{statement}
 use Rattle.tokens.proofs.hex_value.Tie as tie
 
-sub-result : tie.Need-sub-result
-sub-result c = search needs
+add-result : tie.Need-add-result
+add-result c = search needs
 
-sub-result-2 : tie.Need-sub-result-2
-sub-result-2 c = search needs
+add-result-2 : tie.Need-add-result-2
+add-result-2 c = search needs
 
 returns : tie.Need-returns
 returns c = hex-digit (c .before .before .args .b) (omega arith) (omega arith) .value
@@ -36,8 +36,8 @@ pub hex-value-spec : {M : Type 1} → statement M
 hex-value-spec =
     tie.close
     (tie.spec
-    sub-result
-    sub-result-2
+    add-result
+    add-result-2
     returns
     returns-2
     returns-3

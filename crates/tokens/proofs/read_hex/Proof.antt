@@ -8,47 +8,47 @@ use Rattle.tokens.proofs.read_hex.Tie as tie
 count-hex-requires : tie.Need-count-hex-requires
 count-hex-requires c κs = search needs
 
-short-color-requires : tie.Need-short-color-requires
-short-color-requires c κs = search needs
+hex-color-requires : tie.Need-hex-color-requires
+hex-color-requires c κs = search needs
 
-short-channel-requires : tie.Need-short-channel-requires
-short-channel-requires c κs = search needs
+channel-requires : tie.Need-channel-requires
+channel-requires c κs = search needs
 
-short-color-requires-2 : tie.Need-short-color-requires-2
-short-color-requires-2 c κs = search needs
+hex-color-requires-2 : tie.Need-hex-color-requires-2
+hex-color-requires-2 c κs = search needs
 
-long-color-requires : tie.Need-long-color-requires
-long-color-requires c κs = search needs
+hex-color-requires-3 : tie.Need-hex-color-requires-3
+hex-color-requires-3 c κs = search needs
 
-long-channel-requires : tie.Need-long-channel-requires
-long-channel-requires c κs = search needs
+channel-requires-2 : tie.Need-channel-requires-2
+channel-requires-2 c κs = search needs
 
-long-color-requires-2 : tie.Need-long-color-requires-2
-long-color-requires-2 c κs = search needs
+hex-color-requires-4 : tie.Need-hex-color-requires-4
+hex-color-requires-4 c κs = search needs
 
 returns : tie.Need-returns
 unfolding hexOf hexColor
 returns c =
     let h = c .before .before .before .count-hex .ensures in
-    rw (← h .count, c .before .match .keys1, ← h .rest, c .short-color .ensures)
+    rw (← h .count, c .before .match .keys1, ← h .rest, c .hex-color .ensures)
 
 returns-2 : tie.Need-returns-2
 unfolding hexOf hexColor
 returns-2 c =
     let h = c .before .before .before .before .count-hex .ensures in
-    rw (← h .count, c .before .before .match .keys2, ← h .rest, c .short-color2 .ensures, c .before .short-channel .ensures)
+    rw (← h .count, c .before .before .match .keys2, ← h .rest, c .hex-color2 .ensures, c .before .channel .ensures)
 
 returns-3 : tie.Need-returns-3
 unfolding hexOf hexColor
 returns-3 c =
     let h = c .before .before .before .count-hex .ensures in
-    rw (← h .count, c .before .match .keys3, ← h .rest, c .long-color .ensures)
+    rw (← h .count, c .before .match .keys3, ← h .rest, c .hex-color3 .ensures)
 
 returns-4 : tie.Need-returns-4
 unfolding hexOf hexColor
 returns-4 c =
     let h = c .before .before .before .before .count-hex .ensures in
-    rw (← h .count, c .before .before .match .keys4, ← h .rest, c .long-color2 .ensures, c .before .long-channel .ensures)
+    rw (← h .count, c .before .before .match .keys4, ← h .rest, c .hex-color4 .ensures, c .before .channel2 .ensures)
 
 returns-5 : tie.Need-returns-5
 unfolding hexOf hexColor
@@ -62,12 +62,12 @@ read-hex-spec =
     tie.close
     (tie.spec
     count-hex-requires
-    short-color-requires
-    short-channel-requires
-    short-color-requires-2
-    long-color-requires
-    long-channel-requires
-    long-color-requires-2
+    hex-color-requires
+    channel-requires
+    hex-color-requires-2
+    hex-color-requires-3
+    channel-requires-2
+    hex-color-requires-4
     returns
     returns-2
     returns-3

@@ -9,7 +9,7 @@ use mir.Syntax.{w32}
 use mir.Val.{toZ, ofZ}
 use borrow.Author.Needs.{needs}
 use Rattle.text.specs.Text.{peekOf, got, refused, _>>=_, mapRead}
-use Rattle.text.proofs.Laws.{seen, bind-map, bind-same, map-holds}
+use Rattle.text.proofs.Laws.{seen, bind-map, bind-same, gets-is, gets-mapped}
 use Rattle.tokens.specs.Number.{afterSign, isNegative, magnitudeOf, unitOf, signed, number, numberOf, most, cut, upTo}
 use Rattle.tokens.specs.View.{viewAmount, viewUnit}
 use Rattle.tokens.specs.declared.Unit.{Unit}
@@ -26,8 +26,8 @@ by-parts l = sym (bind-map upTo _ (magnitudeOf (afterSign l)) ∙ bind-same _ _ 
         → (unitOf (upTo n) k >>= λ u e. got (number (signed (isNegative l) (upTo n)) u) e) ≡ (unitOf n k >>= λ u e. got (number (cut (signed (isNegative l) n)) u) e)
     same n k = rw (unit-cut n k) (bind-same _ _ (λ u e. ap (λ (z : ℤ). got (number z u) e) (sym (cut-signed (isNegative l) n))) (unitOf n k))
 
-pub magnitude-small : {m : ℕ} {k : List ℕ} (l : List ℕ) → got m k ≡ mapRead upTo (magnitudeOf l) → m ≤ most
-magnitude-small l h = map-holds upTo (λ (m : ℕ). m ≤ most) (λ n. omega arith) (magnitudeOf l) h
+magnitude-small : {m : ℕ} {k : List ℕ} (l : List ℕ) → got m k ≡ mapRead upTo (magnitudeOf l) → m ≤ most
+magnitude-small l h = gets-is (λ (m : ℕ). m ≤ most) h (gets-mapped (λ (m : ℕ). m ≤ most) upTo (λ n. omega arith) (magnitudeOf l))
 
 module _ (l m : List ℕ) (hm : m ≡ afterSign l) where
   no-magnitude : refused ≡ mapRead upTo (magnitudeOf m) → refused ≡ numberOf cut l
