@@ -1,11 +1,11 @@
 -- What the reply 0 of a drawing call says, and the lower of two replies.
 -- Assumes nothing.
-use mathlib.Core.Path.{_≡_, refl, sym, ap, _∙_}
+use mathlib.Core.Path.{_≡_, refl}
 use mathlib.Core.List.{List}
 use Prim.Native.Nat.{ℕ, zero, suc, _*_, _≤_, _<_}
 use native.Mathlib.Omega.{arith}
 use borrow.Author.Tests.{ltb-false, not-false}
-use Rattle.gradient.specs.Check.{Accepted, checkOf}
+use Rattle.gradient.specs.Check.{Accepted}
 use Rattle.gradient.specs.declared.Gradient.{Gradient}
 use Rattle.gradient.proofs.Laws.{orElse-zero, given-zero, accepted}
 use Rattle.line.specs.Box.{Box}

@@ -18,7 +18,7 @@ use Rattle.picture.specs.Picture.{picture, padded}
 use Rattle.picture.proofs.Patches.{refused}
 use Rattle.picture.proofs.Rows.{buffer-at}
 use Rattle.rows.specs.Pixel.{pixelOf}
-use Rattle.drawing.specs.Drawn.{bytesAt, PixelAccurate, Drawn}
+use Rattle.drawing.specs.Drawn.{bytesAt, Drawn}
 use Rattle.drawing.specs.Inner.{Painted}
 
 module _ (rule : Rule) (stops : List Stop) (w h n : ℕ) (after : List ℕ) (e : after ≡ padded n (picture (pixelOf rule stops) w h)) where

@@ -1,10 +1,10 @@
 -- Numbers cut off or kept exact: the answer to a text is the same. Assumes nothing.
-use mathlib.Core.Path.{_≡_, refl, sym, ap, ap₂, _∙_}
-use mathlib.Core.Bool.{Bool, true, false, cond, not, _&&_}
-use mathlib.Core.List.{List, [], _∷_, map}
-use Prim.Native.Nat.{ℕ, _≤_, _<_, min}
+use mathlib.Core.Path.{_≡_, refl, sym, ap, _∙_}
+use mathlib.Core.Bool.{Bool, true, false}
+use mathlib.Core.List.{List, [], map}
+use Prim.Native.Nat.{ℕ, _≤_, min}
 use native.Mathlib.Omega.{arith}
-use lib.Dec.{ltb, eqb}
+use lib.Dec.{ltb}
 use lib.ListN.{length, length-map}
 use borrow.Author.Tests.{ltb-true, ltb-false, lt-ltb, le-ltb}
 use Rattle.text.specs.Text.{Read, got, refused, _>>=_, mapRead, isSpace, past, wholeOf}
@@ -16,7 +16,6 @@ use Rattle.gradient.specs.declared.Direction.the-variants as D
 use Rattle.gradient.specs.declared.Shape.{Shape}
 use Rattle.gradient.specs.declared.Shape.the-variants as Sh
 use Rattle.gradient.specs.declared.Stop.{Stop}
-use Rattle.gradient.specs.Replies.{given, _orElse_}
 use Rattle.gradient.specs.Lists.{all}
 use Rattle.gradient.specs.Blank.{blankGradient}
 use Rattle.gradient.specs.Range.{shapeIn, stopIn}
@@ -25,15 +24,14 @@ use Rattle.heads.proofs.Cut.{cutDirection, direction-cut}
 use Rattle.circles.specs.Circle.{radialOf}
 use Rattle.circles.proofs.Cut.{cutShape, radial-cut, shape-in-cut, shape-kept}
 use Rattle.stoplist.specs.Stops.{itemsOf, twoStopsOf}
-use Rattle.stoplist.specs.View.{places, listOf}
+use Rattle.stoplist.specs.View.{listOf}
 use Rattle.text.proofs.Whole.{whole-map}
 use Rattle.stoplist.proofs.Cut.{cutStop, two-stops-cut, all-in-cut, stops-kept}
 use Rattle.reader.specs.declared.Kind.{Kind}
 use Rattle.reader.specs.declared.Kind.the-variants as K
-use Rattle.reader.specs.declared.Reading.{Reading}
 use Rattle.reader.specs.Text.{Written, written, first, others, withStops, byDirection, linearOf, circularOf, ofKind, kindOf, bodyOf, functionOf, gradientOf}
-use Rattle.reader.specs.Reading.{writtenIn, writtenReply, grammarReply, gradientIn, valueOf, answered, readReply, readOf}
-use Rattle.reader.specs.View.{draftOf, draftReply, draftValue, concluded}
+use Rattle.reader.specs.Reading.{writtenReply, grammarReply, gradientIn, valueOf, answered, readReply, readOf}
+use Rattle.reader.specs.View.{draftOf, draftReply, concluded}
 
 abbrev pub cutWritten : Written → Written
 cutWritten w = written (cutShape (w .shape)) (map cutStop (w .stops))

@@ -1,7 +1,7 @@
 -- Laws of the items between the brackets: what stands before the stops, and the stops. Assumes nothing.
 use mathlib.Core.Path.{_≡_, refl, sym, ap, _∙_}
 use mathlib.Core.List.{List, [], _∷_}
-use Prim.Native.Nat.{ℕ, _+_, _-_, _≤_}
+use Prim.Native.Nat.{ℕ, _+_, _-_}
 use native.Mathlib.Omega.{arith}
 use lib.IntN.{ℤ}
 use lib.ListN.{length, take, drop}
@@ -18,7 +18,7 @@ use Rattle.circles.specs.Circle.{radialOf}
 use Rattle.stoplist.specs.Stops.{itemsOf, twoStopsOf}
 use Rattle.stoplist.specs.View.{CommaAt, itemsFrom, listingOf}
 use Rattle.stoplist.proofs.Laws.{items-more}
-use Rattle.reader.specs.Text.{written, withStops, byDirection, linearOf, circularOf, first, others}
+use Rattle.reader.specs.Text.{written, withStops, byDirection, linearOf, circularOf, first}
 use Rattle.reader.specs.View.{draftOf, drafted, noDraft}
 
 -- a shape beside its stops, as the code keeps them

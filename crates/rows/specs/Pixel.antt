@@ -2,7 +2,7 @@
 -- Assumes nothing.
 use mathlib.Core.List.{List}
 use Prim.Native.Nat.{ℕ}
-use lib.IntN.{ℤ, pos}
+use lib.IntN.{pos}
 use Rattle.line.specs.Box.{Box}
 use Rattle.line.specs.Location.{Rule, locationBy}
 use Rattle.line.specs.Held.{Sound, ruleIn}

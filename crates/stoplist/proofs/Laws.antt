@@ -1,7 +1,7 @@
 -- Laws of whole texts, of the items between commas, and of lists of stops.
 -- Assumes nothing.
 use mathlib.Core.Path.{_≡_, refl, sym, ap, _∙_}
-use mathlib.Core.Bool.{Bool, true, false, cond, not, _||_, _&&_, and-true, false≢true}
+use mathlib.Core.Bool.{Bool, true, false, cond, not, _||_, _&&_, and-true}
 use mathlib.Core.List.{List, [], _∷_, _++_, append-nil}
 use Prim.Native.Nat.{ℕ, suc, _+_, _-_, _≤_, _<_, min}
 use native.Mathlib.Decide.{decLt}
@@ -11,9 +11,9 @@ use lib.Dec.{leb}
 use lib.IntN.{ℤ}
 use lib.ListN.{length, getD, take, drop, set, length-append, drop-of-length-le}
 use lib.Seq.{drop-cons, drop-drop, take-append-seam, drop-append-seam, take-append-le, take-all, append-snoc, set-append-seam}
-use borrow.Author.Tests.{lt-ltb, le-ltb, le-leb, lt-leb, eq-eqb, ne-eqb, leb-true, leb-false, not-true, not-false}
-use Rattle.text.specs.Text.{is, isNil, run, past, isSpace, Read, got, refused, gapOf, mapRead, afterGap, wholeOf}
-use Rattle.text.proofs.Laws.{run-past, map-bind, map-inside, map-cond, map-same}
+use borrow.Author.Tests.{lt-ltb, le-ltb, le-leb, lt-leb, eq-eqb, ne-eqb, leb-true, leb-false}
+use Rattle.text.specs.Text.{is, run, past, Read, got, refused, mapRead, wholeOf}
+use Rattle.text.proofs.Laws.{run-past, map-same}
 use Rattle.gradient.specs.Lists.{all}
 use Rattle.gradient.specs.Range.{stopIn}
 use Rattle.gradient.specs.declared.Stop.{Stop}

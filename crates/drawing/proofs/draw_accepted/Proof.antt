@@ -3,7 +3,6 @@ use mathlib.Core.Path.{_≡_, sym, ap, _∙_, subst}
 use lib.ListN.{length}
 use Rattle.gradient.proofs.Lists.{unmapped}
 use Rattle.stops.specs.Check.{placedOf}
-use Rattle.placing.specs.Placed.{placedIn, listed}
 use Rattle.placing.proofs.Laws.{listed-is, placed-accepted}
 use Rattle.drawing.proofs.Accepted.{Ready, ready, painted-same}
 use borrow.Author.Needs.{needs}

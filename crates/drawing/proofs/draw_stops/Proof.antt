@@ -1,7 +1,7 @@
 -- `drawing::draw_stops` meets its contract. Assumes nothing.
 use mathlib.Core.Path.{refl, sym, _∙_}
 use Rattle.line.proofs.Bounds.{bounds}
-use Rattle.drawing.proofs.Accepted.{Along, along, painted-same}
+use Rattle.drawing.proofs.Accepted.{along, painted-same}
 use Rattle.drawing.proofs.Accurate.{drawn, not-drawn}
 use borrow.Author.Needs.{needs}
 use Rattle.drawing.proofs.draw_stops.Statement.{statement}

@@ -17,7 +17,6 @@ use Rattle.picture.proofs.Rows.{picture-length}
 use Rattle.rows.specs.Pixel.{pixelOf}
 use mathlib.Core.List.{List}
 use Rattle.color.specs.Stop.{Stop}
-use Prim.Native.Nat.{ℕ}
 use borrow.Author.Needs.{needs}
 use Rattle.drawing.proofs.paint.Statement.{statement}
 use Rattle.drawing.proofs.paint.Tie as tie

@@ -1,13 +1,11 @@
 -- `drawing::room_reply` meets its contract. Assumes nothing.
-use mathlib.Core.Path.{_≡_, refl, sym, ap, _∙_}
-use mathlib.Core.Bool.{true, not}
+use mathlib.Core.Path.{sym, ap}
 use native.Mathlib.Omega.{arith}
 use native.Mathlib.Nat.{mul-le-mul}
 use borrow.Author.Tests.{lt-ltb, le-ltb, not-false}
 use Rattle.gradient.specs.Replies.{given}
 use Rattle.gradient.proofs.Laws.{given-first, given-next}
 use Rattle.line.specs.Box.{Box}
-use Rattle.placing.specs.Reply.{boxIn}
 use Rattle.placing.proofs.Replies.{box-is}
 use Rattle.drawing.specs.Replies.{roomReply}
 use borrow.Author.Tests.{lt-ltb, le-ltb}

@@ -1,7 +1,7 @@
 -- `reader::closes` meets its contract. Assumes nothing.
-use mathlib.Core.Path.{_≡_, sym, ap, _∙_}
+use mathlib.Core.Path.{ap, _∙_}
 use borrow.Author.Tests.{eq-eqb, ne-eqb}
-use Rattle.text.specs.Text.{is, isNil, past, isSpace}
+use Rattle.text.specs.Text.{isNil, past, isSpace}
 use Rattle.reader.specs.Text.{closesOf}
 use borrow.Author.Needs.{needs}
 use Rattle.reader.proofs.closes.Statement.{statement}

@@ -1,8 +1,5 @@
 -- `reader::conclude` meets its contract. Assumes nothing.
-use mathlib.Core.Path.{_≡_, sym, ap, _∙_}
-use borrow.Author.Tests.{eq-eqb, ne-eqb}
-use Rattle.reader.specs.Reading.{answered}
-use Rattle.reader.specs.View.{draftValue}
+use borrow.Author.Tests.{ne-eqb}
 use borrow.Author.Needs.{needs}
 use Rattle.reader.proofs.conclude.Statement.{statement}
 use Rattle.reader.proofs.conclude.Tie as tie

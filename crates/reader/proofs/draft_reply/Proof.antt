@@ -1,6 +1,5 @@
 -- `reader::draft_reply` meets its contract. Assumes nothing.
-use mathlib.Core.Path.{_≡_, sym, _∙_}
-use borrow.Author.Tests.{not-true, not-false, lt-ltb, le-ltb}
+use borrow.Author.Tests.{lt-ltb, le-ltb}
 use Rattle.reader.specs.View.{draftReply}
 use borrow.Author.Needs.{needs}
 use Rattle.reader.proofs.draft_reply.Statement.{statement}

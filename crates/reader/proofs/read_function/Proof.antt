@@ -1,7 +1,5 @@
 -- `reader::read_function` meets its contract. Assumes nothing.
-use mathlib.Core.Path.{_≡_, subst}
-use mathlib.Core.List.{List}
-use Prim.Native.Nat.{ℕ}
+use mathlib.Core.Path.{subst}
 use Rattle.text.proofs.Laws.{seen}
 use Rattle.reader.specs.declared.CloseRead.the-variants as close
 use Rattle.reader.specs.Text.{functionOf}

@@ -1,5 +1,4 @@
 -- `reader::with_stops` meets its contract. Assumes nothing.
-use mathlib.Core.Path.{_∙_}
 use borrow.Author.Tests.{not-true, not-false}
 use borrow.Author.Needs.{needs}
 use Rattle.reader.proofs.with_stops.Statement.{statement}

@@ -1,15 +1,15 @@
 -- `rows::draw_each` meets its contract. The invariant: the rows up to j stand from the buffer's start on. Assumes nothing.
 use Rattle.rows.proofs.Pixels.{four, one-more, rows-turn}
-use mathlib.Core.Path.{_≡_, refl, sym, ap, _∙_}
+use mathlib.Core.Path.{_≡_, refl}
 use mathlib.Core.List.{List}
-use Prim.Native.Nat.{ℕ, _+_, _-_, _*_, _≤_}
+use Prim.Native.Nat.{ℕ, _-_, _*_, _≤_}
 use native.Mathlib.Nat.{mul-zero}
 use native.Mathlib.Omega.{arith}
 use denote.Ref.{now}
 use lib.ListN.{length}
-use Rattle.picture.specs.Picture.{row, strip, picture, patched}
-use Rattle.picture.proofs.Rows.{row-length, strip-none, strip-more, strip-length, times-room}
-use Rattle.picture.proofs.Patches.{patch-none, patch-step}
+use Rattle.picture.specs.Picture.{row, strip, patched}
+use Rattle.picture.proofs.Rows.{strip-none}
+use Rattle.picture.proofs.Patches.{patch-none}
 use Rattle.rows.specs.Pixel.{lentPixel}
 use Rattle.rows.proofs.Pixels.{four}
 use borrow.Author.Needs.{needs}

@@ -1,5 +1,5 @@
 -- `whole::draw_text` meets its contract. Assumes nothing.
-use mathlib.Core.Path.{_≡_, sym, ap, _∙_}
+use mathlib.Core.Path.{sym, ap, _∙_}
 use Rattle.gradient.proofs.Laws.{orElse-first, orElse-next}
 use Rattle.reader.specs.declared.Reading.{Reading}
 use Rattle.drawing.proofs.Accurate.{not-drawn}

@@ -1,7 +1,6 @@
 -- `whole::no_placing` meets its contract. Assumes nothing.
 use Rattle.stops.specs.declared.PlacedStops.{PlacedStops}
 use mathlib.Core.Path.{ap}
-use Rattle.placing.specs.declared.Placing.{Placing}
 use borrow.Author.Needs.{needs}
 use Rattle.whole.proofs.no_placing.Statement.{statement}
 use Rattle.whole.proofs.no_placing.Tie as tie
