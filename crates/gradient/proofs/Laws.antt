@@ -4,9 +4,8 @@ use mathlib.Core.Path.{_≡_, refl}
 use mathlib.Core.Bool.{Bool, true, false, and-eq-true-iff}
 use Prim.Native.Nat.{ℕ, zero, suc, _%_, _≤_, _<_}
 use native.Mathlib.Omega.{arith}
-use native.Mathlib.Decide.{decLt}
 use lib.IntN.{ℤ, natAbs}
-use lib.ListN.{length, getD, length-take, List·getD-eq-default}
+use lib.ListN.{length, getD, length-take}
 use lib.Seq.{getD-take}
 use lib.Signed.{nonNeg}
 use borrow.Author.Tests.{ltb-false, le-ltb, leb-true, eqb-true, not-false}
@@ -20,7 +19,7 @@ use Rattle.gradient.specs.declared.Size.{Size}
 use Rattle.gradient.specs.declared.Coordinate.{Coordinate}
 use Rattle.gradient.specs.declared.Shape.the-variants.{Linear, Circle}
 use Rattle.gradient.specs.declared.Gradient.{Gradient}
-use Rattle.gradient.proofs.Lists.{all-at, all-from}
+use Rattle.gradient.proofs.Lists.{all-first, all-from}
 
 -- ---- replies: no reply, the first one, the next one
 pub orElse-zero : (a b : ℕ) → a orElse b ≡ 0 → (a ≡ 0) × (b ≡ 0)
@@ -48,13 +47,7 @@ given-next n e k = rw e k
 -- ---- the gradients that are accepted
 each-in : (g : Gradient) → stopsIn g ≡ true → (i : ℕ) → i < g .count → stopIn (getD (g .stops) i blankStop) ≡ true
 unfolding stopsIn
-each-in g e i h = within (decLt i (length (g .stops)))
-  where
-    within : Dec (i < length (g .stops)) → stopIn (getD (g .stops) i blankStop) ≡ true
-    within (yes k) =
-        let l : i < length (stopsOf g) = omega (arith, length-take (g .count) (g .stops)) in
-        rw getD-take at (all-at stopIn (stopsOf g) e i blankStop l)
-    within (no k) = let l : length (g .stops) ≤ i = omega arith in rw (List·getD-eq-default (g .stops) blankStop l)
+each-in g e = all-first stopIn blankStop refl (g .count) (g .stops) e
 
 pub accepted : (g : Gradient) → checkOf g ≡ 0 → Accepted g
 unfolding checkOf

@@ -6,7 +6,7 @@ use mathlib.Core.List.{List, [], _∷_, map}
 use Prim.Native.Nat.{ℕ, zero, suc, _+_, _≤_, _<_}
 use native.Mathlib.Numerals.{add-one}
 use native.Mathlib.Omega.{arith}
-use lib.ListN.{length, getD, drop, length-map, drop-of-length-le}
+use lib.ListN.{length, getD, take, drop, replicate, length-map, drop-of-length-le}
 use lib.Seq.{drop-cons}
 use Rattle.gradient.specs.Lists.{all}
 
@@ -20,6 +20,17 @@ module _ {A : Type 0} (p : A → Bool) where
   all-from [] d f = refl
   all-from (x ∷ xs) d f =
       and-eq-true-iff (p x) (all p xs) .1 (f 0 (omega arith), all-from xs d (λ i h. f (suc i) (omega arith)))
+
+  -- an element among the first n, or d past the end of the list
+  pub all-first : (d : A) → p d ≡ true → (n : ℕ) (xs : List A) → all p (take n xs) ≡ true → (i : ℕ) → i < n → p (getD xs i d) ≡ true
+  all-first d t zero xs e i h = absurd (omega arith)
+  all-first d t (suc n) [] e i h = t
+  all-first d t (suc n) (x ∷ xs) e zero h = and-eq-true-iff (p x) (all p (take n xs)) .0 e .0
+  all-first d t (suc n) (x ∷ xs) e (suc i) h = all-first d t n xs (and-eq-true-iff (p x) (all p (take n xs)) .0 e .1) i (omega arith)
+
+  pub all-copies : (d : A) → p d ≡ true → (n : ℕ) → all p (replicate n d) ≡ true
+  all-copies d t zero = refl
+  all-copies d t (suc n) = and-eq-true-iff (p d) (all p (replicate n d)) .1 (t, all-copies d t n)
 
   -- a loop at index i: it ends, an element fails, or one more is passed
   module _ (xs : List A) (i : ℕ) where

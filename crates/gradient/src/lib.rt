@@ -108,7 +108,8 @@ pub fn blank_gradient() -> Gradient
     }
 }
 
-fn is_clear(c: Color) -> bool
+// Whether a color is transparent black.
+pub fn is_clear(c: Color) -> bool
     ensures { λ r. ⌜ r ≡ isClear c ⌝ }
 {
     c.red == 0 && (c.green == 0 && (c.blue == 0 && c.alpha == 0))

@@ -16,6 +16,7 @@ use Rattle.gradient.specs.declared.Position.the-variants as P
 use Rattle.gradient.specs.declared.Stop.{Stop}
 use Rattle.gradient.specs.declared.Gradient.{Gradient}
 use Rattle.gradient.specs.Lists.{all}
+use Rattle.gradient.proofs.Lists.{all-copies}
 use Rattle.gradient.specs.Blank.{blankStop}
 use Rattle.gradient.specs.Range.{positionIn, stopIn}
 use Rattle.gradient.specs.Check.{stopsOf, Accepted}
@@ -116,14 +117,9 @@ module _ (line : ℕ) (stops : List Stop) where
 pub listed-is : (l : List PlacedStop) → placedOf (listed l) ≡ l
 listed-is l = take-append-seam l (replicate (16 - length l) blankPlaced)
 
-blanks : (n : ℕ) → all isBlankPlaced (replicate n blankPlaced) ≡ true
-unfolding isBlankPlaced
-blanks zero = refl
-blanks (suc n) = blanks n
-
 blank-past : (l : List PlacedStop) → blankPastPlaced (listed l) ≡ true
-unfolding blankPastPlaced
-blank-past l = ap (all isBlankPlaced) (drop-append-seam l (replicate (16 - length l) blankPlaced)) ∙ blanks (16 - length l)
+unfolding blankPastPlaced isBlankPlaced
+blank-past l = ap (all isBlankPlaced) (drop-append-seam l (replicate (16 - length l) blankPlaced)) ∙ all-copies isBlankPlaced blankPlaced refl (16 - length l)
 
 pub listed-accepted : (l : List PlacedStop) → 2 ≤ length l → length l ≤ 16 → rising l ≡ true
     → ((i : ℕ) → natAbs (getD l i blankPlaced .position) ≤ 33554432) → checkPlacedOf (listed l) ≡ 0

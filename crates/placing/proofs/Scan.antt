@@ -1,16 +1,12 @@
 -- Loops that go through a list from the front: what is done, followed by what the definition makes of the rest, stays the same.
 -- Assumes nothing.
-use mathlib.Core.Path.{_≡_, refl, sym, ap, _∙_}
-use mathlib.Core.List.{List, [], _∷_, _++_, map, append-nil}
+use mathlib.Core.Path.{_≡_, sym, ap, _∙_}
+use mathlib.Core.List.{List, [], _∷_, _++_, map, append-nil, map-append}
 use Prim.Native.Nat.{ℕ, suc, _+_, _≤_, _<_}
 use native.Mathlib.Numerals.{add-one}
 use native.Mathlib.Omega.{arith}
 use lib.ListN.{length, take, drop, getD, set}
 use lib.Seq.{take-suc, drop-cons, take-suc-set, drop-set-lt, append-snoc, take-length, drop-length}
-
-pub map-append {ℓ ℓ′} : {A : Type ℓ} {B : Type ℓ′} (f : A → B) (l m : List A) → map f (l ++ m) ≡ map f l ++ map f m
-map-append f [] m = refl
-map-append f (a ∷ l) m = ap (λ (r : List _). f a ∷ r) (map-append f l m)
 
 module _ {ℓ} {A B C : Type ℓ} (f : A → B) (g : A → C) (ps : List A) (i : ℕ) where
   -- entry i is replaced by v; `go` is what the definition makes of the rest before, and `go′` after

@@ -1,7 +1,7 @@
 -- The stops put beside their positions, one after the other, in an array whose other places are blank.
 -- Assumes nothing.
 use mathlib.Core.Path.{_≡_, refl, sym, ap, _∙_}
-use mathlib.Core.List.{List, [], _∷_, _++_, map}
+use mathlib.Core.List.{List, [], _∷_, _++_, map, map-append}
 use Prim.Native.Nat.{ℕ, zero, suc, _+_, _-_, _≤_, _<_}
 use native.Mathlib.Numerals.{add-one}
 use native.Mathlib.Omega.{arith}
@@ -14,7 +14,6 @@ use Rattle.gradient.specs.Blank.{blankStop}
 use Rattle.stops.specs.declared.PlacedStop.{PlacedStop}
 use Rattle.stops.specs.Blank.{blankPlaced}
 use Rattle.placing.specs.Placed.{placedAt, atPositions, listed}
-use Rattle.placing.proofs.Scan.{map-append}
 
 pub length-at : (l : List Stop) (zs : List ℤ) → length zs ≡ length l → length (atPositions l zs) ≡ length l
 unfolding atPositions

@@ -3,7 +3,7 @@
 use mathlib.Core.Path.{_≡_, refl, ap}
 use mathlib.Core.Bool.{Bool, true, false, cond, and-eq-true-iff}
 use mathlib.Core.List.{List, [], _++_}
-use Prim.Native.Nat.{ℕ, zero, suc, _-_, _≤_}
+use Prim.Native.Nat.{ℕ, _-_, _≤_}
 use native.Mathlib.Omega.{arith}
 use lib.Dec.{ltb}
 use lib.ListN.{length, replicate, List·getD-append}
@@ -22,7 +22,7 @@ use Rattle.gradient.specs.Lists.{all}
 use Rattle.gradient.specs.Blank.{blankStop, isBlank}
 use Rattle.gradient.specs.Range.{shapeIn, stopIn}
 use Rattle.gradient.specs.Check.{Accepted, blankPast, checkOf}
-use Rattle.gradient.proofs.Lists.{all-at}
+use Rattle.gradient.proofs.Lists.{all-at, all-copies}
 use Rattle.gradient.proofs.Laws.{orElse-zero, given-zero, accepting}
 use Rattle.heads.specs.Direction.{directionOf}
 use Rattle.circles.specs.Circle.{radialOf}
@@ -71,21 +71,16 @@ two-stops l =
     (λ kind k. two-after (bodyOf k) (λ body _. ofKind exact kind body) (λ body m. two-of kind body))
 
 -- ---- what the reply 0 says of it
-blanks : (n : ℕ) → all isBlank (replicate n blankStop) ≡ true
-unfolding isBlank
-blanks zero = refl
-blanks (suc n) = blanks n
-
 fit-accepted : (w : Written) → 2 ≤ length (w .stops) → length (w .stops) ≤ 16 → shapeIn (w .shape) ≡ true → all stopIn (w .stops) ≡ true
     → Accepted (valueOf w)
-unfolding blankPast
+unfolding blankPast isBlank
 fit-accepted w two fit shape stops =
     let ss = w .stops in
     let kept : places ss ≡ ss ++ replicate (16 - length ss) blankStop = ap (λ (x : List Stop). x ++ replicate (16 - length ss) blankStop) (take-all 16 ss fit) in
     record {
       two = two;
       fit = fit;
-      blank = rw (kept, drop-append-seam) (blanks (16 - length ss));
+      blank = rw (kept, drop-append-seam) (all-copies isBlank blankStop refl (16 - length ss));
       shape = shape;
       stops = λ i h. rw (kept, List·getD-append ss (replicate (16 - length ss) blankStop) blankStop i h) (all-at stopIn ss stops i blankStop h);
     }

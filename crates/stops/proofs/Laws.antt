@@ -1,26 +1,18 @@
 -- What placed stops that are accepted hold.
 -- Assumes nothing.
 use mathlib.Core.Path.{_≡_, refl}
-use mathlib.Core.Bool.{Bool, true, and-eq-true-iff}
-use mathlib.Core.List.{List, [], _∷_}
-use Prim.Native.Nat.{ℕ, zero, suc, _<_}
+use mathlib.Core.Bool.{true}
+use Prim.Native.Nat.{ℕ, _<_}
 use native.Mathlib.Omega.{arith}
-use lib.ListN.{length, getD, take, length-take}
+use lib.ListN.{length, getD, length-take}
 use lib.Seq.{getD-take}
 use borrow.Author.Tests.{ltb-false, le-ltb, leb-true, le-leb, not-false}
 use Rattle.gradient.specs.Lists.{all}
-use Rattle.gradient.proofs.Lists.{all-from}
+use Rattle.gradient.proofs.Lists.{all-first, all-from}
 use Rattle.gradient.proofs.Laws.{orElse-zero, given-zero}
 use Rattle.stops.specs.declared.PlacedStops.{PlacedStops}
 use Rattle.stops.specs.Blank.{blankPlaced}
 use Rattle.stops.specs.Check.{placedOf, placeIn, placesIn, checkPlacedOf, AcceptedPlaced}
-
--- a test that holds of the first n elements, and of what stands past the end
-each-in : {A : Type 0} (p : A → Bool) (d : A) → p d ≡ true → (n : ℕ) (xs : List A) → all p (take n xs) ≡ true → (i : ℕ) → i < n → p (getD xs i d) ≡ true
-each-in p d t zero xs e i h = absurd (omega arith)
-each-in p d t (suc n) [] e i h = t
-each-in p d t (suc n) (x ∷ xs) e zero h = and-eq-true-iff (p x) (all p (take n xs)) .0 e .0
-each-in p d t (suc n) (x ∷ xs) e (suc i) h = each-in p d t n xs (and-eq-true-iff (p x) (all p (take n xs)) .0 e .1) i (omega arith)
 
 pub accepted-placed : (p : PlacedStops) → checkPlacedOf p ≡ 0 → AcceptedPlaced p
 unfolding checkPlacedOf placesIn
@@ -35,7 +27,7 @@ accepted-placed p e =
       fit = ltb-false _ _ (given-zero _ _ (r .1));
       rising = not-false _ (given-zero _ _ (b .0));
       blank = not-false _ (given-zero _ _ (s .0));
-      in-range = λ i h. leb-true _ _ (each-in placeIn blankPlaced refl (p .count) (p .stops) places i h);
+      in-range = λ i h. leb-true _ _ (all-first placeIn blankPlaced refl (p .count) (p .stops) places i h);
     }
 
 -- the positions of accepted stops are in their range

@@ -2,7 +2,6 @@
 use gradient::Color;
 use numbers::magnitude;
 ghost use mathlib.Core.Path.{_≡_};
-ghost use Rattle.gradient.specs.Blank.{isClear};
 ghost use Rattle.stops.specs.Blank.{blankPlaced, noStops, isBlankPlaced};
 ghost use Rattle.stops.specs.Check.{placedOf, rising, blankPastPlaced, placeIn, placesIn, checkPlacedOf};
 
@@ -44,16 +43,10 @@ pub fn no_stops() -> PlacedStops
     }
 }
 
-fn is_clear(c: Color) -> bool
-    ensures { λ r. ⌜ r ≡ isClear c ⌝ }
-{
-    c.red == 0 && (c.green == 0 && (c.blue == 0 && c.alpha == 0))
-}
-
 fn is_blank_placed(s: PlacedStop) -> bool
     ensures { λ r. ⌜ r ≡ isBlankPlaced s ⌝ }
 {
-    is_clear(s.color) && magnitude(s.position) == 0
+    gradient::is_clear(s.color) && magnitude(s.position) == 0
 }
 
 fn place_in(s: PlacedStop) -> bool
