@@ -14,7 +14,9 @@ use Rattle.numbers.proofs.Nearest.{nearest-half, nearest-mono}
 use Rattle.stops.specs.declared.PlacedStop.{PlacedStop}
 use Rattle.color.specs.Stop.{Channel, red, green, blue, alpha, premultiplied, Stop, stopOf, noStop, Around, pair, Location, whole, atOrBelow, lastPlace, aroundPlace, around}
 use Rattle.color.specs.Byte.{mixed, byteAt, rgba, byteOf, colorAt}
-use Rattle.color.specs.Accuracy.{Within, Near, least, greatest, Accurate, ColorBytes, AllBytes}
+use Rattle.color.specs.Accuracy.{Within, Near, least, greatest, Accurate}
+use Rattle.gradient.specs.Bytes.{ColorBytes}
+use Rattle.stops.specs.Bytes.{AllBytes}
 use Rattle.color.specs.Lent.{mix}
 use Rattle.color.proofs.Mix.{mix-mono, mix-same, mix-off}
 use Rattle.color.proofs.Place.{View, alone, two, view}

@@ -1,11 +1,10 @@
 -- The last element of a list that passes a test, and the stops around a location.
 -- Assumes nothing.
-use mathlib.Core.Path.{_≡_, refl, sym, ap, subst}
+use mathlib.Core.Path.{_≡_, refl, sym, ap, subst, _∙_}
 use mathlib.Core.List.{List, [], _∷_, _++_}
 use mathlib.Core.Bool.{Bool, true, false, cond}
-use Prim.Native.Nat.{ℕ, zero, suc, _+_, _≤_, _<_, zero-le, suc-le-suc}
+use Prim.Native.Nat.{ℕ, zero, suc, _-_, _≤_, _<_, zero-le, suc-le-suc}
 use native.Mathlib.Nat.{le-of-suc-le-suc, not-suc-le-zero, suc-inj, suc-ne-zero}
-use native.Mathlib.Numerals.{add-one}
 use native.Mathlib.Omega.{arith}
 use lib.Dec.{eqb, leb}
 use lib.ListN.{length, getD, take}
@@ -84,7 +83,7 @@ pub view : (stops : List Stop) (t : Location) → View stops t (around stops t)
 unfolding around
 view stops t = view-at stops t (lastPlace (λ a. atOrBelow t (a .position)) stops) (last (λ a. atOrBelow t (a .position)) noStop stops)
 
--- ---- a loop from the front
+-- ---- a loop from the end
 -- one element more at the end
 last-snoc : {A : Type 0} (f : A → Bool) (l : List A) (a : A) (b : Bool) → f a ≡ b → lastPlace f (l ++ (a ∷ [])) ≡ cond b (suc (length l)) (lastPlace f l)
 unfolding lastPlace
@@ -93,12 +92,18 @@ last-snoc f [] a false e = ap (λ (b : Bool). placed b 0) e
 last-snoc f (x ∷ l) a true e = ap (placed (f x)) (last-snoc f l a true e)
 last-snoc f (x ∷ l) a false e = ap (placed (f x)) (last-snoc f l a false e)
 
-module _ (ps : List ℕ) (at i : ℕ) (h : i < length ps) where
-  step : (b : Bool) → leb (getD ps i 0) at ≡ b → lastUpTo (take (i + 1) ps) at ≡ cond b (suc (length (take i ps))) (lastUpTo (take i ps) at)
-  step b e = rw (add-one, take-suc ps i 0) (last-snoc (λ (p : ℕ). leb p at) (take i ps) (getD ps i 0) b e)
+module _ (ps : List ℕ) (at k : ℕ) (some : 0 < k) (h : k ≤ length ps) where
+  step : (b : Bool) → leb (getD ps (k - 1) 0) at ≡ b → lastUpTo (take k ps) at ≡ cond b (suc (length (take (k - 1) ps))) (lastUpTo (take (k - 1) ps) at)
+  step b e =
+      let n : k ≡ suc (k - 1) = omega arith in
+      let i : k - 1 < length ps = omega arith in
+      ap (λ (m : ℕ). lastUpTo (take m ps) at) n
+      ∙ rw (take-suc ps (k - 1) 0 i) (last-snoc (λ (p : ℕ). leb p at) (take (k - 1) ps) (getD ps (k - 1) 0) b e)
 
-  pub last-here : getD ps i 0 ≤ at → i + 1 ≡ lastUpTo (take (i + 1) ps) at
-  last-here k = omega (arith, step true (le-leb (getD ps i 0) at k), length-take-le i ps (omega arith))
+  -- where the last of the first k is at or below, it is that one
+  pub last-here : getD ps (k - 1) 0 ≤ at → lastUpTo (take k ps) at ≡ k
+  last-here p = omega (arith, step true (le-leb (getD ps (k - 1) 0) at p), length-take-le (k - 1) ps (omega arith))
 
-  pub last-before : at < getD ps i 0 → lastUpTo (take i ps) at ≡ lastUpTo (take (i + 1) ps) at
-  last-before k = sym (step false (lt-leb (getD ps i 0) at k))
+  -- where it is above, it is none
+  pub last-before : at < getD ps (k - 1) 0 → lastUpTo (take k ps) at ≡ lastUpTo (take (k - 1) ps) at
+  last-before p = step false (lt-leb (getD ps (k - 1) 0) at p)

@@ -14,7 +14,8 @@ use Rattle.stops.specs.declared.PlacedStop.{PlacedStop}
 use Rattle.stops.specs.declared.PlacedStops.{PlacedStops}
 use Rattle.stops.proofs.PlacedStop as PlacedStopType
 use Rattle.stops.proofs.PlacedStops as PlacedStopsType
-use Rattle.color.specs.Accuracy.{ColorBytes, AllBytes}
+use Rattle.gradient.specs.Bytes.{ColorBytes}
+use Rattle.stops.specs.Bytes.{AllBytes}
 
 -- that a value is one of a field's type, at its machine values
 abbrev pub Told : (F : Field) → F .Value → List Val → Type 0

@@ -6,11 +6,7 @@ use mathlib.Core.Bool.{true, false}
 use mathlib.Core.List.{List}
 use Prim.Native.Nat.{ℕ, _≤_, _<_, min, max}
 use lib.IntN.{ℤ, pos, _+ℤ_}
-use lib.ListN.{getD}
 use Rattle.numbers.specs.Fraction.{Fraction, _⁄_, _+ᶠ_, _≤ᶠ_, _<ᶠ_, off}
-use Rattle.gradient.specs.declared.Color.{Color}
-use Rattle.stops.specs.Blank.{blankPlaced}
-use Rattle.stops.specs.declared.PlacedStop.{PlacedStop}
 use Rattle.color.specs.Stop.{Channel, alpha, Stop, Around, single, pair, Location, whole, atOrBelow, around}
 use Rattle.color.specs.Byte.{units, exact, stopByte}
 
@@ -49,13 +45,3 @@ pub record Accurate (stops : List Stop) (s : ℤ) (t : Location) (byte : Channel
   pub within-alpha : (c : Channel) → byte c ≤ byte alpha
   -- the stops that the rule takes at t are those that it takes at s
   pub same-stops : around stops t ≡ around stops (whole s)
-
--- the colors are made of bytes
-pub record ColorBytes (c : Color) : Type 0 where
-  pub red : c .red ≤ 255
-  pub green : c .green ≤ 255
-  pub blue : c .blue ≤ 255
-  pub alpha : c .alpha ≤ 255
-
-abbrev pub AllBytes : List PlacedStop → Type 0
-AllBytes l = (i : ℕ) → ColorBytes (getD l i blankPlaced .color)

@@ -11,7 +11,7 @@ use Rattle.stops.specs.Check.{placedOf, placesIn}
 use Rattle.stops.specs.declared.PlacedStop.{PlacedStop}
 use Rattle.stops.specs.declared.PlacedStops.{PlacedStops}
 use Rattle.color.specs.Stop.{red, green, blue, alpha, premultiplied, stopOf}
-use Rattle.color.specs.Accuracy.{AllBytes}
+use Rattle.stops.specs.Bytes.{AllBytes}
 use Rattle.color.specs.Lent.{Small, Lent, stopsOf}
 
 -- at most 16 stops, with positions that can be held: from −2^25 to 2^25 units

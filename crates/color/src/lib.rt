@@ -29,15 +29,14 @@ pub struct Rgba {
 fn last_up_to(positions: &[u32], at: u32) -> usize
     ensures { λ r. ⌜ r ≡ lastUpTo (now (positions .entry)) at ⌝ }
 {
-    let mut place: usize = 0;
-    let mut i: usize = 0;
-    while i < positions.len() {
-        if positions[i] <= at {
-            place = i + 1;
+    let mut place = positions.len();
+    while 0 < place {
+        if positions[place - 1] <= at {
+            return place;
         }
-        i += 1;
+        place -= 1;
     }
-    place
+    0
 }
 
 // A stop's own byte: P / 255 to the nearest whole, halves up.

@@ -6,7 +6,7 @@ use lib.ListN.{length}
 use Rattle.line.specs.Location.{Rule}
 use Rattle.stops.specs.declared.PlacedStop.{PlacedStop}
 use Rattle.color.specs.Stop.{stopOf}
-use Rattle.color.specs.Accuracy.{AllBytes}
+use Rattle.stops.specs.Bytes.{AllBytes}
 use Rattle.picture.specs.Picture.{picture, padded}
 use Rattle.rows.specs.Pixel.{pixelOf}
 

@@ -1,6 +1,7 @@
 pub mod Replies
 pub mod Lists
 pub mod Blank
+pub mod Bytes
 pub mod Range
 pub mod Check
 pub mod Worked

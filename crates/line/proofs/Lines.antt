@@ -3,7 +3,7 @@
 use mathlib.Core.Path.{_≡_, refl, sym, ap, _∙_}
 use mathlib.Core.Bool.{Bool, true, false}
 use Prim.Native.Nat.{ℕ, zero, suc, _+_, _*_, _≤_, _<_}
-use native.Mathlib.Nat.{mul-le-mul-right}
+use native.Mathlib.Nat.{mul-le-mul, mul-le-mul-right}
 use native.Mathlib.Omega.{arith}
 use lib.IntN.{ℤ, pos, _+ℤ_, _-ℤ_, _*ℤ_, negℤ, natAbs, subℕ, +ℤ-assoc, +ℤ-comm, *ℤ-zero}
 use Rattle.numbers.proofs.Integers.{diff-eq, diff-of, diff-pos, diff-neg, diff-add, diff-mul, mul-neg}
@@ -18,6 +18,10 @@ module _ (s t : Bool) (a b : ℕ) where
   pub norm-is : norm (vector (signed s a) (signed t b)) ≡ a * a + b * b
   unfolding norm
   norm-is = rw (abs-signed s a, abs-signed t b)
+
+-- the norm of a held vector, by its sizes
+pub norm-small : (x y : ℕ) → x + y ≤ 32767 → x * x + y * y < 1073741824
+norm-small x y h = omega (arith, mul-le-mul h h)
 
 -- a vector that is not 0 has a norm that is not
 pub norm-some : (a b : ℕ) → 0 < a + b → 0 < a * a + b * b

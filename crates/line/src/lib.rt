@@ -170,7 +170,7 @@ fn on_line(t: u64, v: HeldVector, guess: u32) -> u64
 {
     let x = v.x as u64;
     let y = v.y as u64;
-    root::root_near(t * t / (x * x + y * y), guess)
+    root::root_near(x * x + y * y, t * t, guess)
 }
 
 fn vector_length(v: HeldVector, w: usize, h: usize) -> u64
@@ -237,7 +237,7 @@ fn hypotenuse(a: u64, b: u64, guess: u32) -> u64
     requires { ⌜ (a < 67108864) × (b < 67108864) ⌝ }
     ensures { λ r. ⌜ r ≡ rootOf 1 (squared a + squared b) ⌝ }
 {
-    root::root_near(a * a + b * b, guess)
+    root::root_near(1, a * a + b * b, guess)
 }
 
 // The greater of two, or the lesser.

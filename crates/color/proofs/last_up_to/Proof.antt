@@ -1,8 +1,7 @@
--- `color::last_up_to` meets its contract. The invariant: `place` is that of the last of the first i positions. Assumes nothing.
-use mathlib.Core.Path.{_≡_, refl, _∙_, ap}
-use mathlib.Core.Logic.{⊎-elim}
-use mathlib.Core.List.{List}
-use Prim.Native.Nat.{ℕ, _≤_, _<_, _-_}
+-- `color::last_up_to` meets its contract. The invariant: no position from `place` on is at or below. Assumes nothing.
+use mathlib.Core.Path.{_≡_, refl, sym, _∙_, ap}
+use mathlib.Core.List.{List, []}
+use Prim.Native.Nat.{ℕ, _≤_, _<_}
 use native.Mathlib.Omega.{arith}
 use lib.ListN.{length, take}
 use lib.Seq.{take-length}
@@ -14,14 +13,16 @@ use Rattle.color.proofs.last_up_to.Statement.{statement}
 use Rattle.color.proofs.last_up_to.Tie as tie
 
 abbrev Inv-loop : tie.InvT-loop
-Inv-loop positions at place₀ i₀ place i = (i ≤ length positions) × (place ≡ lastUpTo (take i positions) at)
+Inv-loop positions at place₀ place = (place ≤ length positions) × (lastUpTo positions at ≡ lastUpTo (take place positions) at)
 
 abbrev μ-loop : tie.MeasureT-loop
-μ-loop positions at place₀ i₀ place i = length positions - i
+μ-loop positions at place₀ place = place
 
 loop-holds : tie.Need-loop-holds Inv-loop μ-loop
-unfolding lastPlace
-loop-holds c = (search needs, refl)
+loop-holds c = (search needs, ap (λ (l : List ℕ). lastUpTo l (c .args .at)) (sym (take-length (c .args .positions .now))))
+
+sub-if1 : tie.Need-sub-if1 Inv-loop μ-loop
+sub-if1 c = search needs
 
 mul-if1 : tie.Need-mul-if1 Inv-loop μ-loop
 mul-if1 c = search needs
@@ -29,30 +30,30 @@ mul-if1 c = search needs
 shared-slice-read-if1 : tie.Need-shared-slice-read-if1 Inv-loop μ-loop
 shared-slice-read-if1 c = search needs
 
-add-place : tie.Need-add-place Inv-loop μ-loop
-add-place c = search needs
+returns : tie.Need-returns Inv-loop μ-loop
+returns c =
+    let l = c .before .before .before in
+    let ps = l .before .args .positions .now in
+    sym (l .loop .inv .1 ∙ last-here ps (l .before .args .at) (l .loop .place) (search needs) (l .loop .inv .0) (c .if1 .taken))
 
-add-i : tie.Need-add-i Inv-loop μ-loop
-add-i c = search needs
+sub-place : tie.Need-sub-place Inv-loop μ-loop
+sub-place c = search needs
 
 loop-less : tie.Need-loop-less Inv-loop μ-loop
 loop-less c = search needs
 
 loop-again : tie.Need-loop-again Inv-loop μ-loop
 loop-again c =
-    let at-loop = c .before .before .before in
-    let ps = at-loop .before .args .positions .now in
-    let at = at-loop .before .args .at in
-    let i = at-loop .loop .i in
-    let h : i < length ps = search needs in
-    (search needs, ⊎-elim (λ w. w .1 ∙ last-here ps at i h (w .0 .taken)) (λ w. w .1 ∙ at-loop .loop .inv .1 ∙ last-before ps at i h (w .0 .left)) (c .if1 .came))
+    let l = c .before .before .before in
+    let ps = l .before .args .positions .now in
+    (search needs, l .loop .inv .1 ∙ last-before ps (l .before .args .at) (l .loop .place) (search needs) (l .loop .inv .0) (c .if1 .left))
 
-returns : tie.Need-returns Inv-loop μ-loop
-returns c =
-    let ps = c .before .before .args .positions .now in
-    let at = c .before .before .args .at in
-    let all : c .before .loop .i ≡ length ps = omega arith in
-    c .before .loop .inv .1 ∙ ap (λ (k : ℕ). lastUpTo (take k ps) at) all ∙ ap (λ (l : List ℕ). lastUpTo l at) (take-length ps)
+returns-2 : tie.Need-returns-2 Inv-loop μ-loop
+unfolding lastPlace
+returns-2 c =
+    let s = c .before .before in
+    let none : c .before .loop .place ≡ 0 = omega arith in
+    sym (c .before .loop .inv .1 ∙ ap (λ (k : ℕ). lastUpTo (take k (s .args .positions .now)) (s .args .at)) none)
 
 pub last-up-to-spec : {M : Type 1} → statement M
 last-up-to-spec =
@@ -61,10 +62,11 @@ last-up-to-spec =
     Inv-loop
     μ-loop
     loop-holds
+    sub-if1
     mul-if1
     shared-slice-read-if1
-    add-place
-    add-i
+    returns
+    sub-place
     loop-less
     loop-again
-    returns)
+    returns-2)

@@ -3,6 +3,8 @@ use mathlib.Core.Path.{_≡_, refl, ap, _∙_}
 use mathlib.Core.List.{List}
 use Prim.Native.Nat.{ℕ, _+_, _-_, _*_, _≤_}
 use native.Mathlib.Omega.{arith}
+use mir.Syntax.{w64}
+use mir.Val.{Fits}
 use denote.Ref.{now}
 use lib.ListN.{length}
 use Rattle.picture.specs.Picture.{row, patched}
@@ -15,17 +17,20 @@ use Rattle.rows.proofs.draw_row.Statement.{statement}
 use Rattle.rows.proofs.draw_row.Tie as tie
 
 abbrev Inv-loop : tie.InvT-loop
-Inv-loop positions values l w h j at buf₀ i₀ o₀ last₀ p₀ buf i o last p =
+Inv-loop positions values l w h j at buf₀ i₀ o₀ before₀ last₀ p₀ buf i o before last p =
     (buf ≡ patched buf₀ at (row (lentPixel positions values l w h) i j)) × (o ≡ at + 4 * i) × (i ≤ w) × (length buf ≡ length buf₀)
 
 abbrev μ-loop : tie.MeasureT-loop
-μ-loop positions values l w h j at buf₀ i₀ o₀ last₀ p₀ buf i o last p = w - i
+μ-loop positions values l w h j at buf₀ i₀ o₀ before₀ last₀ p₀ buf i o before last p = w - i
 
 clear-requires : tie.Need-clear-requires Inv-loop μ-loop
 clear-requires c κs = search needs
 
 loop-holds : tie.Need-loop-holds Inv-loop μ-loop
 loop-holds c = (rw row-none (patch-none (now (c .before .before .before .before .args .buf)) (c .before .before .before .before .args .at)), omega arith, omega arith, refl)
+
+ahead-requires : tie.Need-ahead-requires Inv-loop μ-loop
+ahead-requires c κs = search needs
 
 locate-requires : tie.Need-locate-requires Inv-loop μ-loop
 locate-requires c κs = search needs
@@ -39,8 +44,11 @@ color-near-requires c κs = search needs
 put-pixel-requires : tie.Need-put-pixel-requires Inv-loop μ-loop
 put-pixel-requires c κs = omega arith
 
+next-fits : (c : tie.In-loop Inv-loop μ-loop) → Fits w64 (c .before .loop .o + 4)
+next-fits c = omega arith
+
 add-o : tie.Need-add-o Inv-loop μ-loop
-add-o c = omega arith
+add-o c = next-fits (c .before .before .before .before .before .before .before)
 
 add-i : tie.Need-add-i Inv-loop μ-loop
 add-i c = omega arith
@@ -50,8 +58,8 @@ loop-less c = omega arith
 
 loop-again : tie.Need-loop-again Inv-loop μ-loop
 loop-again c =
-    let a = c .before .before .before .before .before .before .before .before .before .before .before .before .args in
-    let l = c .before .before .before .before .before .before .before .loop in
+    let a = c .before .before .before .before .before .before .before .before .before .before .before .before .before .args in
+    let l = c .before .before .before .before .before .before .before .before .loop in
     let px : (ℕ → ℕ → List ℕ) = lentPixel (a .positions .now) (a .values .now) (a .l) (a .w) (a .h) in
     let e : c .before .before .put-pixel .last .0 ≡ patched (l .buf) (l .o) (px (l .i) (a .j)) =
     c .before .before .put-pixel .ensures
@@ -79,6 +87,7 @@ draw-row-spec =
     μ-loop
     clear-requires
     loop-holds
+    ahead-requires
     locate-requires
     add-color-near
     color-near-requires

@@ -1,0 +1,65 @@
+-- `root::root_from` meets its contract. Assumes nothing.
+use borrow.Author.Needs.{needs}
+use Rattle.root.proofs.root_from.Statement.{statement}
+use Rattle.root.proofs.root_from.Tie as tie
+
+newton-requires : tie.Need-newton-requires
+newton-requires c κs = search needs
+
+over-square-requires : tie.Need-over-square-requires
+over-square-requires c κs = search needs
+
+cast-if1 : tie.Need-cast-if1
+cast-if1 c = search needs
+
+mul-if1 : tie.Need-mul-if1
+mul-if1 c = search needs
+
+cast-result : tie.Need-cast-result
+cast-result c = search needs
+
+returns : tie.Need-returns
+returns c = c .before .over-square .ensures (c .if1 .taken)
+
+wrapping-sub-u32-requires : tie.Need-wrapping-sub-u32-requires
+wrapping-sub-u32-requires c κs = search needs
+
+over-square-requires-2 : tie.Need-over-square-requires-2
+over-square-requires-2 c κs = search needs
+
+cast-if2 : tie.Need-cast-if2
+cast-if2 c = search needs
+
+mul-if2 : tie.Need-mul-if2
+mul-if2 c = search needs
+
+cast-result-2 : tie.Need-cast-result-2
+cast-result-2 c = search needs
+
+returns-2 : tie.Need-returns-2
+returns-2 c = c .before .over-square2 .ensures (c .if2 .taken)
+
+root-requires : tie.Need-root-requires
+root-requires c κs = search needs
+
+returns-3 : tie.Need-returns-3
+returns-3 c = search needs
+
+pub root-from-spec : {M : Type 1} → statement M
+root-from-spec =
+    tie.close
+    (tie.spec
+    newton-requires
+    over-square-requires
+    cast-if1
+    mul-if1
+    cast-result
+    returns
+    wrapping-sub-u32-requires
+    over-square-requires-2
+    cast-if2
+    mul-if2
+    cast-result-2
+    returns-2
+    root-requires
+    returns-3)
