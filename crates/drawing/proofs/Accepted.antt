@@ -61,7 +61,7 @@ lowest-right zero b n m h = absurd (n refl)
 lowest-right (suc a) zero n m h = absurd (m refl)
 lowest-right (suc a) (suc b) n m h = omega arith
 
-lowest-zero : (a b : ℕ) → lowest a b ≡ 0 → (a ≡ 0) × (b ≡ 0)
+pub lowest-zero : (a b : ℕ) → lowest a b ≡ 0 → (a ≡ 0) × (b ≡ 0)
 unfolding lowest
 lowest-zero zero b e = (refl, e)
 lowest-zero (suc a) zero e = absurd (omega arith)

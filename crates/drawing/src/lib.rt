@@ -44,7 +44,7 @@ pub fn room_reply(w: usize, h: usize, n: usize) -> u32
 }
 
 // The lower of two replies that apply.
-fn lower(a: u32, b: u32) -> u32
+pub fn lower(a: u32, b: u32) -> u32
     ensures { λ r. ⌜ r ≡ lowest a b ⌝ }
 {
     if a == 0 {

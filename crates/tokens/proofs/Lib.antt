@@ -4,3 +4,4 @@ pub mod Decimal
 pub mod Magnitudes
 pub mod Signed
 pub mod NameTable
+pub mod Bytes

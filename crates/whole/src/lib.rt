@@ -32,7 +32,7 @@ pub fn place_text(s: &[u8], w: usize, h: usize) -> Placing
 }
 
 // Leaves zeros, and hands on the reply.
-fn refuse(buf: &mut [u8], reply: u32) -> u32
+pub fn refuse(buf: &mut [u8], reply: u32) -> u32
     ensures { λ r. ⌜ (r ≡ reply) × (now (buf .exit) ≡ replicate (length (now (buf .entry))) 0) ⌝ }
 {
     picture::clear(buf);

@@ -1,0 +1,73 @@
+-- What the calls of the C side answer, and what they leave in a slice that is lent. Document 01: "Where the C side gets a chart or stops in a lent
+-- slice, 2 is also given when it is shorter than the one size docs/ states with its layout; it is all zeros after a refusal and zero past the
+-- answer on 0." "The lowest number that applies is given."
+-- Assumes nothing.
+use mathlib.Core.Path.{_≡_}
+use mathlib.Core.Bool.{not}
+use mathlib.Core.List.{List, map}
+use Prim.Native.Nat.{ℕ}
+use lib.Dec.{ltb}
+use lib.ListN.{length}
+use Rattle.gradient.specs.Replies.{given, _orElse_}
+use Rattle.gradient.specs.declared.Gradient.{Gradient}
+use Rattle.line.specs.Line.{ruleOf}
+use Rattle.line.specs.Location.{Rule}
+use Rattle.reader.specs.Reading.{readOf}
+use Rattle.stops.specs.Check.{placedOf}
+use Rattle.placing.specs.Placed.{placedIn, listed}
+use Rattle.placing.specs.Reply.{boxIn}
+use Rattle.color.specs.Stop.{Stop, stopOf}
+use Rattle.picture.specs.Picture.{buffer}
+use Rattle.drawing.specs.Replies.{roomReply, lowest}
+use Rattle.layout.specs.Taken.{takenReply, takenOf}
+use Rattle.stopslayout.specs.Words.{placedLayoutOf}
+use Rattle.stopslayout.specs.Taken.{takenStopsReply, takenStopsOf}
+
+-- the one size of a gradient, and of placed stops
+abbrev pub gradientSize : ℕ
+gradientSize = 320
+
+abbrev pub stopsSize : ℕ
+stopsSize = 132
+
+-- A call whose answer should be `answer` and which should hand out `layout`, in a slice that held `before`, has answered r and left `after`.
+pub record Handed (answer : ℕ) (layout : List ℕ) (r : ℕ) (before after : List ℕ) : Type 0 where
+  pub reply : r ≡ answer
+  pub bytes-left : after ≡ buffer r layout (length before)
+
+-- ---- the replies, with a lent slice of n bytes
+-- reading a text
+unfoldable pub readCall : List ℕ → ℕ → ℕ
+readCall text n = given (ltb n gradientSize) 2 orElse readOf text .reply
+
+-- placing: the box, the lent slice, and then what is placed
+unfoldable pub stopsRoom : ℕ → ℕ → ℕ → ℕ
+stopsRoom w h n = given (not (boxIn w h)) 1 orElse given (ltb n stopsSize) 2
+
+abbrev pub placeCall : List ℕ → ℕ → ℕ → ℕ → ℕ
+placeCall text w h n = stopsRoom w h n orElse readOf text .reply
+
+abbrev pub placeGradientCall : List ℕ → ℕ → ℕ → ℕ → ℕ
+placeGradientCall g w h n = stopsRoom w h n orElse takenReply g
+
+-- drawing: the box, the lent buffer, and then what is drawn; a gradient and placed stops are judged together
+abbrev pub drawGradientCall : List ℕ → ℕ → ℕ → ℕ → ℕ
+drawGradientCall g w h n = roomReply w h n orElse takenReply g
+
+abbrev pub drawStopsCall : List ℕ → List ℕ → ℕ → ℕ → ℕ → ℕ
+drawStopsCall g p w h n = roomReply w h n orElse lowest (takenReply g) (takenStopsReply p)
+
+-- ---- what is handed out, and drawn
+-- the layout of a gradient's stops, placed in a box
+abbrev pub placedLayout : Gradient → ℕ → ℕ → List ℕ
+placedLayout g w h = placedLayoutOf (listed (placedIn g w h))
+
+-- the rule of the locations, and the stops, of slices that were taken
+abbrev pub takenRule : List ℕ → ℕ → ℕ → Rule
+takenRule g w h = ruleOf (takenOf g .gradient .shape) w h
+
+abbrev pub gradientStops : List ℕ → ℕ → ℕ → List Stop
+gradientStops g w h = map stopOf (placedIn (takenOf g .gradient) w h)
+
+abbrev pub listStops : List ℕ → List Stop
+listStops p = map stopOf (placedOf (takenStopsOf p .stops))

@@ -1,0 +1,4 @@
+pub mod Each
+pub mod UpTo
+pub mod Equal
+pub mod Back

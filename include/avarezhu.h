@@ -1,0 +1,235 @@
+/*
+ * Avarezhu: CSS gradients, from text to premultiplied RGBA bytes.
+ *
+ *     text --read--> gradient --place (in a box)--> stops --draw--> pixels
+ *
+ * Most programs need one call:
+ *
+ *     const char *text = "linear-gradient(to right, black, white)";
+ *     uint8_t pixels[AVAREZHU_PIXELS_SIZE(4, 1)];
+ *     uint32_t reply = avarezhu_draw((const uint8_t *)text, strlen(text), 4, 1, pixels, sizeof pixels);
+ *     if (reply != AVAREZHU_DONE) {
+ *         // nothing was drawn: pixels holds zeros only, and reply says why
+ *     }
+ *
+ * It leaves 32 32 32 255, 96 96 96 255, 159 159 159 255, 223 223 223 255.
+ *
+ * Look at the reply before the pixels. Zeros alone tell nothing: they are left by every refusal, and
+ * `linear-gradient(transparent, transparent)` is drawn as zeros too.
+ *
+ * True of every call:
+ *   - Any bytes, any length and any box may be handed over. The call judges them and replies.
+ *   - A slice is a pointer and a number of bytes, all of which the caller owns. With 0 bytes the
+ *     pointer is not followed and may be NULL. No alignment is asked for.
+ *   - No two slices of one call may overlap. This is the caller's part and is not checked.
+ *   - The last slice is lent: the call writes every byte of it. After a refusal all are 0, however
+ *     short the slice is; on AVAREZHU_DONE the answer comes first and all bytes past it are 0.
+ *   - The other slices are only read. A text needs no 0 at its end, and a 0 in it is not in the grammar.
+ *   - Nothing is allocated and nothing is kept between calls. Calls may run on several threads at
+ *     once, as long as no call uses a slice that is lent to another.
+ */
+#ifndef AVAREZHU_H
+#define AVAREZHU_H
+
+#include <stddef.h>
+#include <stdint.h>
+
+#ifdef __cplusplus
+extern "C" {
+#endif
+
+/* Replies. If several apply, the lowest is given. */
+enum avarezhu_reply {
+    /* The answer is in the lent slice. */
+    AVAREZHU_DONE = 0,
+
+    /* Width or height is not in 1 to 2,048.
+     * Wrong: a box of 0 by 5, or of 2,049 by 1. Right: 1 by 5, or 2,048 by 1. */
+    AVAREZHU_BAD_BOX = 1,
+
+    /* The lent slice is too short: 320 bytes for a gradient, 132 for stops, 4 for each pixel.
+     * Wrong: 15 bytes for 4 by 1 pixels. Right: 16 or more. */
+    AVAREZHU_NO_ROOM = 2,
+
+    /* The text is longer than 1,024 bytes.
+     * Wrong: 1,025 bytes, even if the last is a blank. Right: leave blanks out. */
+    AVAREZHU_LONG_TEXT = 3,
+
+    /* The text is not in the grammar, or a gradient or stops handed in break their layout.
+     * Wrong: linear-gradient(red). Right: linear-gradient(red, blue).
+     * Wrong: stops in a slice of 133 bytes. Right: 132, no more and no less. */
+    AVAREZHU_MALFORMED = 4,
+
+    /* A number is out of its range: lengths -8192px to 8192px, a circle's size 0 to 8192px,
+     * percentages -1000% to 1000%, angles -3600deg to 3600deg in steps of a quarter degree,
+     * placed stops -33,554,432 to 33,554,432 in 1/64 px.
+     * Wrong: linear-gradient(45.1deg, red, blue). Right: linear-gradient(45.25deg, red, blue). */
+    AVAREZHU_OUT_OF_RANGE = 5,
+
+    /* There are more than 16 stops.
+     * Wrong: seventeen colors between commas. Right: sixteen. */
+    AVAREZHU_TOO_MANY_STOPS = 6
+};
+
+/* Sizes in bytes, and limits. */
+#define AVAREZHU_GRADIENT_SIZE 320 /* of a gradient */
+#define AVAREZHU_STOPS_SIZE 132    /* of placed stops */
+#define AVAREZHU_TEXT_MAX 1024     /* of the longest text that is read */
+#define AVAREZHU_SIDE_MAX 2048     /* greatest width and height of a box, in pixels */
+#define AVAREZHU_STOPS_MAX 16      /* greatest number of stops */
+
+/* The bytes of a picture in a box that is not too large. */
+#define AVAREZHU_PIXELS_SIZE(width, height) ((size_t)4 * (width) * (height))
+
+/* The stack in bytes that is enough for any call. tests/host/stack.c measures what each call uses. */
+#define AVAREZHU_STACK 8192
+
+/*
+ * Reading: text to gradient.
+ * Leaves the gradient in 320 bytes. Replies: 0, 2, 3, 4, 5, 6.
+ */
+uint32_t avarezhu_read(const uint8_t *text, size_t text_length,
+                       uint8_t *gradient, size_t gradient_length);
+
+/*
+ * Placing: where the color stops stand on the gradient line in a box of width by height pixels.
+ * Leaves the stops in 132 bytes. Replies: 0 to 6; place_gradient never gives 3.
+ * A gradient handed in has 320 bytes exactly.
+ */
+uint32_t avarezhu_place(const uint8_t *text, size_t text_length,
+                        size_t width, size_t height,
+                        uint8_t *stops, size_t stops_length);
+
+uint32_t avarezhu_place_gradient(const uint8_t *gradient, size_t gradient_length,
+                                 size_t width, size_t height,
+                                 uint8_t *stops, size_t stops_length);
+
+/*
+ * Drawing: the picture in a box of width by height pixels.
+ * Leaves red, green, blue and alpha of each pixel, one byte each, the colors premultiplied by alpha;
+ * rows from the top, pixels from the left, no gaps. Replies: 0 to 6; only avarezhu_draw gives 3.
+ */
+uint32_t avarezhu_draw(const uint8_t *text, size_t text_length,
+                       size_t width, size_t height,
+                       uint8_t *pixels, size_t pixels_length);
+
+uint32_t avarezhu_draw_gradient(const uint8_t *gradient, size_t gradient_length,
+                                size_t width, size_t height,
+                                uint8_t *pixels, size_t pixels_length);
+
+/*
+ * The same with stops of your own: direction or circle come from the gradient, colors and positions
+ * from the stops. The gradient's own stops are judged but not drawn. Both slices are judged, and the
+ * lower reply of the two is given.
+ */
+uint32_t avarezhu_draw_stops(const uint8_t *gradient, size_t gradient_length,
+                             const uint8_t *stops, size_t stops_length,
+                             size_t width, size_t height,
+                             uint8_t *pixels, size_t pixels_length);
+
+/*
+ * The two layouts as structs (docs/LAYOUT.md has the bytes). On a little-endian machine a struct has
+ * the bytes of its layout, so its address can be handed over:
+ *
+ *     avarezhu_gradient g;
+ *     reply = avarezhu_read(text, length, (uint8_t *)&g, sizeof g);
+ *
+ * To fill one yourself, start from zeros (memset): every field without a meaning, and every place
+ * past the last stop, must be 0. Lengths are in thousandths of a px, percentages in thousandths of a
+ * percent, angles in thousandths of a degree: 45.25deg is 45250.
+ */
+
+/* shape */
+enum { AVAREZHU_LINEAR = 0, AVAREZHU_CIRCLE = 1 };
+
+/* direction */
+enum {
+    AVAREZHU_TO_TOP = 0,
+    AVAREZHU_TO_RIGHT = 1,
+    AVAREZHU_TO_BOTTOM = 2,
+    AVAREZHU_TO_LEFT = 3,
+    AVAREZHU_TO_TOP_LEFT = 4,
+    AVAREZHU_TO_TOP_RIGHT = 5,
+    AVAREZHU_TO_BOTTOM_LEFT = 6,
+    AVAREZHU_TO_BOTTOM_RIGHT = 7,
+    AVAREZHU_ANGLE = 8
+};
+
+/* extent */
+enum {
+    AVAREZHU_CLOSEST_SIDE = 0,
+    AVAREZHU_CLOSEST_CORNER = 1,
+    AVAREZHU_FARTHEST_SIDE = 2,
+    AVAREZHU_FARTHEST_CORNER = 3
+};
+
+/* unit, size_unit, x_unit, y_unit */
+enum { AVAREZHU_NONE = 0, AVAREZHU_LENGTH = 1, AVAREZHU_PERCENTAGE = 2 };
+
+/* A color stop as the text gives it. The color is not premultiplied. */
+typedef struct avarezhu_stop {
+    uint8_t red;
+    uint8_t green;
+    uint8_t blue;
+    uint8_t alpha;
+    uint32_t unit;     /* AVAREZHU_NONE without a position */
+    int32_t position;  /* 0 without a position */
+    int32_t position2; /* reserved, 0 */
+} avarezhu_stop;
+
+typedef struct avarezhu_gradient {
+    uint32_t count;      /* of stops, 2 to 16 */
+    uint32_t shape;
+    uint32_t repeating;  /* reserved, 0 */
+    uint32_t direction;  /* linear; 0 in a circle */
+    int32_t angle;       /* if direction is AVAREZHU_ANGLE, else 0 */
+    uint32_t extent;     /* circle; 0 if the size is a length */
+    uint32_t size_unit;  /* circle; AVAREZHU_NONE (by the extent) or AVAREZHU_LENGTH */
+    int32_t size;        /* the radius, if size_unit is AVAREZHU_LENGTH, else 0 */
+    uint32_t size2_unit; /* reserved, 0 */
+    int32_t size2;       /* reserved, 0 */
+    uint32_t x_unit;     /* circle; AVAREZHU_LENGTH or AVAREZHU_PERCENTAGE */
+    int32_t x;           /* the center from the left edge */
+    int32_t x2;          /* reserved, 0 */
+    uint32_t y_unit;     /* circle; AVAREZHU_LENGTH or AVAREZHU_PERCENTAGE */
+    int32_t y;           /* the center from the top edge */
+    int32_t y2;          /* reserved, 0 */
+    avarezhu_stop stops[AVAREZHU_STOPS_MAX];
+} avarezhu_gradient;
+
+/* A color stop that has its place. The color is not premultiplied. */
+typedef struct avarezhu_placed_stop {
+    uint8_t red;
+    uint8_t green;
+    uint8_t blue;
+    uint8_t alpha;
+    int32_t position; /* in 1/64 px from the start of the line, -33,554,432 to 33,554,432 */
+} avarezhu_placed_stop;
+
+/* Positions never fall from one stop to the next. */
+typedef struct avarezhu_stops {
+    uint8_t count; /* of stops, 2 to 16 */
+    uint8_t zero[3];
+    avarezhu_placed_stop stops[AVAREZHU_STOPS_MAX];
+} avarezhu_stops;
+
+#if defined(__cplusplus) && __cplusplus >= 201103L
+#define AVAREZHU_CHECK(fact) static_assert(fact, #fact)
+#elif !defined(__cplusplus) && defined(__STDC_VERSION__) && __STDC_VERSION__ >= 201112L
+#define AVAREZHU_CHECK(fact) _Static_assert(fact, #fact)
+#endif
+#ifdef AVAREZHU_CHECK
+AVAREZHU_CHECK(sizeof(avarezhu_gradient) == AVAREZHU_GRADIENT_SIZE);
+AVAREZHU_CHECK(sizeof(avarezhu_stop) == 16);
+AVAREZHU_CHECK(offsetof(avarezhu_gradient, stops) == 64);
+AVAREZHU_CHECK(sizeof(avarezhu_stops) == AVAREZHU_STOPS_SIZE);
+AVAREZHU_CHECK(sizeof(avarezhu_placed_stop) == 8);
+AVAREZHU_CHECK(offsetof(avarezhu_stops, stops) == 4);
+#undef AVAREZHU_CHECK
+#endif
+
+#ifdef __cplusplus
+}
+#endif
+
+#endif

@@ -1,0 +1,91 @@
+//! What a run has reached, and what it must reach.
+
+use std::collections::BTreeMap;
+
+use crate::library::{Call, Export, EXPORTS};
+
+const CLAUSES: [&str; 33] = [
+    "no direction", "side", "corner, horizontal word first", "corner, vertical word first",
+    "angle", "angle below 0", "angle above 360",
+    "circle alone", "closest-side", "closest-corner", "farthest-side", "farthest-corner",
+    "extent before circle", "circle and length", "length and circle", "single length",
+    "no at", "at center", "at horizontal word", "at vertical word", "at number", "at two words",
+    "at two words, vertical first", "at word and number", "at number and word", "at two numbers",
+    "stop without position", "stop with length", "stop with percentage", "16 stops",
+    "text of 1,024 bytes", "whole picture of 2,048 by 2,048", "every byte from 0 to 255",
+];
+
+pub struct Counts {
+    replies: [[u64; 7]; 6],
+    pixels: u64,
+    pub texts: u64,
+    clauses: BTreeMap<&'static str, u64>,
+    bytes: [bool; 256],
+}
+
+fn replies_of(export: Export) -> &'static [usize] {
+    match export {
+        Export::Read => &[0, 2, 3, 4, 5, 6],
+        Export::Place | Export::Draw => &[0, 1, 2, 3, 4, 5, 6],
+        _ => &[0, 1, 2, 4, 5, 6],
+    }
+}
+
+impl Counts {
+    pub fn new() -> Counts {
+        let clauses = CLAUSES.iter().map(|name| (*name, 0)).collect();
+        Counts { replies: [[0; 7]; 6], pixels: 0, texts: 0, clauses, bytes: [false; 256] }
+    }
+
+    pub fn call(&mut self, call: &Call, reply: u32) {
+        self.replies[call.export as usize][reply as usize] += 1;
+        if reply == 0 && call.export.draws() {
+            self.pixels += (call.area.0 * call.area.1) as u64;
+        }
+        if reply == 0 && call.export.draws() && call.area == (2048, 2048) {
+            self.clause("whole picture of 2,048 by 2,048");
+        }
+    }
+
+    pub fn clause(&mut self, name: &'static str) {
+        *self.clauses.get_mut(name).expect("a clause of the list") += 1;
+    }
+
+    pub fn text(&mut self, text: &[u8]) {
+        self.texts += 1;
+        for byte in text {
+            self.bytes[usize::from(*byte)] = true;
+        }
+    }
+
+    pub fn print(&mut self) {
+        if self.bytes.iter().all(|seen| *seen) {
+            self.clauses.insert("every byte from 0 to 255", 1);
+        }
+        println!("{:<24}{}", "reply", (0..7).map(|r| format!("{r:>10}")).collect::<String>());
+        for export in EXPORTS {
+            let row = self.replies[export as usize];
+            println!("{:<24}{}", export.name(), row.map(|n| format!("{n:>10}")).concat());
+        }
+        println!("{} texts, {} pixels compared", self.texts, self.pixels);
+        println!("accepted texts, by clause:");
+        for name in CLAUSES {
+            println!("  {:<34}{:>9}", name, self.clauses[name]);
+        }
+    }
+
+    /// The replies and clauses that the run should have reached and has not.
+    pub fn missing(&self) -> Vec<String> {
+        let mut list = Vec::new();
+        for export in EXPORTS {
+            for reply in replies_of(export) {
+                if self.replies[export as usize][*reply] == 0 {
+                    list.push(format!("{} with reply {reply}", export.name()));
+                }
+            }
+        }
+        let clauses = CLAUSES.iter().filter(|name| self.clauses[**name] == 0);
+        list.extend(clauses.map(|name| name.to_string()));
+        list
+    }
+}

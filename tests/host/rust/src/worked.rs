@@ -1,0 +1,115 @@
+//! The charts that the rules work through by hand, first for the model alone.
+
+use crate::cases::{text_case, Area};
+use crate::chance::Chance;
+use crate::compare::Compare;
+use crate::expected::{answer, settle};
+use crate::gradient::Amount;
+use crate::grid::{units, Grid};
+use crate::layout::take_stops;
+use crate::library::{Call, Export};
+use crate::reading::read;
+use crate::sines::table_is_sound;
+
+const GRAYS: [u8; 16] = [32, 32, 32, 255, 96, 96, 96, 255, 159, 159, 159, 255, 223, 223, 223, 255];
+
+/// Charts with all their bytes.
+const DRAWN: [(&str, &str, Area, &[u8]); 3] = [
+    ("P1", "linear-gradient(to right, black, white)", (4, 1), &GRAYS),
+    ("P2", "linear-gradient(to right, red, transparent)", (2, 1), &[191, 0, 0, 191, 64, 0, 0, 64]),
+    ("P9", "radial-gradient(circle at 0.5px 0.5px, red -50px, yellow 100px)", (1, 1), &[255, 85, 0, 255]),
+];
+
+/// Charts with the places of their stops.
+const PLACED: [(&str, &str, Area, &[i64]); 9] = [
+    ("P3", "linear-gradient(to top right, black, white)", (3, 4), &[0, 307]),
+    ("P4", "linear-gradient(to right, red 40%, white, black, blue)", (200, 1), &[5120, 7680, 10_240, 12_800]),
+    ("P5", "linear-gradient(to right, red -50%, white, blue)", (200, 1), &[-6400, 3200, 12_800]),
+    ("P6", "linear-gradient(to right, red 20px, white 0px, blue 40px)", (200, 1), &[1280, 1280, 2560]),
+    ("P7", "linear-gradient(to right, red, white -50%, black 150%, blue)", (200, 1), &[0, 0, 19_200, 19_200]),
+    ("P8", "linear-gradient(to right, red -50px, white, blue)", (200, 1), &[-3200, 4800, 12_800]),
+    ("P10", "linear-gradient(to right, red -0.01px, white 0.01px, blue 33.333%)", (200, 1), &[-1, 0, 4266]),
+    ("closest-corner", "radial-gradient(circle closest-corner at 3px 4px, red, blue)", (20, 20), &[0, 320]),
+    ("a radius of 0", "radial-gradient(0px, red -10%, blue, lime 500%)", (3, 3), &[0, 0, 0]),
+];
+
+const SIXTEEN: &str = "red,red,red,red,red,red,red,red,red,red,red,red,red,red,red,red";
+
+/// Texts and boxes with the reply of drawing, the lent slice being as long as the last number.
+fn replies() -> Vec<(String, Area, usize, u32)> {
+    let two = "linear-gradient(red,blue)".to_string();
+    let list = |text: &str, reply: u32| (text.to_string(), (4, 1), 16, reply);
+    vec![
+        (two.clone(), (2048, 1), 8192, 0),
+        (two.clone(), (2049, 1), 8196, 1),
+        (two.clone(), (1, 0), 16, 1),
+        (two, (4, 1), 15, 2),
+        (format!("{}linear-gradient(red,blue)", " ".repeat(999)), (4, 1), 16, 0),
+        (format!("{}linear-gradient(red,blue)", " ".repeat(1000)), (4, 1), 16, 3),
+        list("", 4),
+        list("linear-gradient(red)", 4),
+        list("linear-gradient(red, blue,)", 4),
+        list("linear-gradient(to left right, red, blue)", 4),
+        list("radial-gradient(circle at top 20px, red, blue)", 4),
+        list("radial-gradient(circle at left right, red, blue)", 4),
+        list("linear-gradient(red 8192px, blue)", 0),
+        list("linear-gradient(red 8192.001px, blue)", 5),
+        list("linear-gradient(45.1deg, red, blue)", 5),
+        list(&format!("linear-gradient({SIXTEEN})"), 0),
+        list(&format!("linear-gradient({SIXTEEN},red)"), 6),
+        list(&format!("linear-gradient({SIXTEEN},red 9000px)"), 5),
+        list(&format!("linear-gradient({SIXTEEN},red"), 4),
+    ]
+}
+
+fn same<T: PartialEq + std::fmt::Debug>(name: &str, want: T, got: T) -> Result<(), String> {
+    if want == got {
+        return Ok(());
+    }
+    Err(format!("the model fails on {name}: expected {want:?}, got {got:?}\n"))
+}
+
+pub fn model() -> Result<(), String> {
+    same("the rules of the sine table", true, table_is_sound())?;
+    same("0.01px", 0, units(Amount::Length(10), 0))?;
+    same("-0.01px", -1, units(Amount::Length(-10), 0))?;
+    same("33.333% of 12,800", 4266, units(Amount::Percentage(33_333), 12_800))?;
+    for (name, text, area, bytes) in DRAWN {
+        same(name, Ok(bytes.to_vec()), answer(Export::Draw, text.as_bytes(), &[], area))?;
+    }
+    for (name, text, area, places) in PLACED {
+        let stops = take_stops(&answer(Export::Place, text.as_bytes(), &[], area).unwrap_or_default());
+        let got: Vec<i64> = stops.unwrap_or_default().iter().map(|stop| stop.at).collect();
+        same(name, places.to_vec(), got)?;
+    }
+    for (text, area, lent, reply) in replies() {
+        let right = answer(Export::Draw, text.as_bytes(), &[], area);
+        let call = Call { export: Export::Draw, first: text.as_bytes(), second: &[], area, lent };
+        same(&text, reply, settle(&call, &right).0)?;
+    }
+    corner()
+}
+
+/// P3's two pixels.
+fn corner() -> Result<(), String> {
+    let (_, text, area, _) = PLACED[0];
+    let reading = read(text.as_bytes()).map_err(|reply| format!("the model refuses P3 with {reply}\n"))?;
+    let grid = Grid::new(&reading.gradient.shape, area);
+    let bytes = answer(Export::Draw, text.as_bytes(), &[], area).unwrap_or_default();
+    same("P3, pixel (0,3)", (44, 37), (grid.location(0, 3), bytes[4 * 9]))?;
+    same("P3, pixel (2,0)", (262, 218), (grid.location(2, 0), bytes[4 * 2]))
+}
+
+/// The same charts through the library.
+pub fn library(compare: &mut Compare) -> Result<(), String> {
+    let drawn = DRAWN.iter().map(|(_, text, area, _)| (text.to_string(), *area));
+    let placed = PLACED.iter().map(|(_, text, area, _)| (text.to_string(), *area));
+    let refused = replies().into_iter().map(|(text, area, _, _)| (text, area));
+    compare.place.part = "worked chart";
+    for (k, (text, area)) in drawn.chain(placed).chain(refused).enumerate() {
+        compare.place.number = k as u64 + 1;
+        let mut chance = Chance::new(compare.place.seed, k as u64);
+        text_case(compare, &mut chance, text.as_bytes(), area)?;
+    }
+    Ok(())
+}

@@ -1,0 +1,261 @@
+/*
+ * Measures how much stack each export uses: it runs on a thread whose stack was painted, and the
+ * lowest byte that lost its paint tells how deep the call went. Fails if that is more than
+ * AVAREZHU_STACK. Then makes every call again with AVAREZHU_STACK and a small margin to run in.
+ */
+#define _DEFAULT_SOURCE
+#include "avarezhu.h"
+
+#include <pthread.h>
+#include <signal.h>
+#include <stdio.h>
+#include <stdlib.h>
+#include <string.h>
+#include <sys/mman.h>
+#include <unistd.h>
+
+#define COUNT(array) (sizeof(array) / sizeof *(array))
+
+enum {
+    FULL = 1 << 20, /* bytes of stack to measure in */
+    MARGIN = 8192,  /* bytes beside AVAREZHU_STACK: the thread's own record and first frames */
+    NEAR = 512      /* bytes below the caller's frame that stay unpainted: the painting runs there */
+};
+
+enum export { READ, PLACE, PLACE_GRADIENT, DRAW, DRAW_GRADIENT, DRAW_STOPS, EXPORTS };
+static const char *const export_names[EXPORTS] = {
+    "avarezhu_read", "avarezhu_place",         "avarezhu_place_gradient",
+    "avarezhu_draw", "avarezhu_draw_gradient", "avarezhu_draw_stops",
+};
+
+#define FOUR(a) a ", " a ", " a ", " a
+#define SIXTEEN FOUR("red 3%, lime, #0000ff80, white 2px")
+
+/* Texts with their replies; a text shorter than `length` is filled up with blanks. */
+static const struct recipe {
+    const char *kind, *text;
+    size_t length;
+    uint32_t reply;
+} recipes[] = {
+    {"a general angle, 2 stops", "linear-gradient(37.25deg, red, #0000ff80)", 0, 0},
+    {"a general angle, 16 stops", "linear-gradient(-1234.75deg, " SIXTEEN ")", 0, 0},
+    {"a corner, 2 stops", "linear-gradient(to top left, red 10%, #0000ff80)", 0, 0},
+    {"a corner, 16 stops", "linear-gradient(to right bottom, " SIXTEEN ")", 0, 0},
+    {"a side, 2 stops", "linear-gradient(to left, red, transparent)", 0, 0},
+    {"a side, 16 stops", "linear-gradient(" SIXTEEN ")", 0, 0},
+    {"a circle, 2 stops", "radial-gradient(circle, red, #0000ff80)", 0, 0},
+    {"a circle, 16 stops", "radial-gradient(farthest-side circle at top, " SIXTEEN ")", 0, 0},
+    {"a circle by its corner", "radial-gradient(circle closest-corner at 33.333% 0, red, lime)", 0, 0},
+    {"a circle of a length", "radial-gradient(8192px at -8192px 1000%, red -1000%, blue 1000%)", 0, 0},
+    {"a text of 1,024 bytes", "linear-gradient(37.25deg, " SIXTEEN ")", 1024, 0},
+    {"a text of 1,025 bytes", "linear-gradient(37.25deg, " SIXTEEN ")", 1025, 3},
+    {"an empty text", "", 0, 4},
+    {"a text not in the grammar", "linear-gradient(37.25deg, " SIXTEEN ",)", 0, 4},
+    {"a number out of its range", "linear-gradient(45.1deg, " SIXTEEN ")", 0, 5},
+    {"seventeen stops", "radial-gradient(circle, " SIXTEEN ", red)", 0, 6},
+};
+
+static const struct box {
+    size_t width, height;
+} boxes[] = {{1, 1}, {16, 9}, {2048, 1}, {2048, 7}, {3, 2048}, {0, 1}, {SIZE_MAX, SIZE_MAX}};
+
+/* One call, and how deep it went. */
+struct job {
+    enum export export;
+    const char *kind;
+    struct box box;
+    uint8_t text[AVAREZHU_TEXT_MAX + 1];
+    size_t text_length;
+    uint8_t gradient[AVAREZHU_GRADIENT_SIZE];
+    uint8_t stops[AVAREZHU_STOPS_SIZE];
+    size_t lent;
+    uint8_t paint;
+    uint8_t *low;
+    size_t depth, own; /* below and above the frame that makes the call */
+};
+
+static uint8_t lent[4 * 2048 * 7];
+static uint8_t *stack;
+static size_t usable;
+static const struct job *current;
+static size_t deepest[EXPORTS], own_most;
+static const char *where[EXPORTS];
+
+static void call(const struct job *j)
+{
+    size_t width = j->box.width, height = j->box.height;
+    switch (j->export) {
+    case READ:
+        avarezhu_read(j->text, j->text_length, lent, j->lent);
+        break;
+    case PLACE:
+        avarezhu_place(j->text, j->text_length, width, height, lent, j->lent);
+        break;
+    case PLACE_GRADIENT:
+        avarezhu_place_gradient(j->gradient, sizeof j->gradient, width, height, lent, j->lent);
+        break;
+    case DRAW:
+        avarezhu_draw(j->text, j->text_length, width, height, lent, j->lent);
+        break;
+    case DRAW_GRADIENT:
+        avarezhu_draw_gradient(j->gradient, sizeof j->gradient, width, height, lent, j->lent);
+        break;
+    default:
+        avarezhu_draw_stops(j->gradient, sizeof j->gradient, j->stops, sizeof j->stops, width, height, lent,
+                            j->lent);
+    }
+}
+
+static void on_fault(int signal, siginfo_t *info, void *context)
+{
+    (void)signal, (void)context;
+    fprintf(stderr, "stack: %s, %s, %zu by %zu: fault at %p with %zu bytes of stack\n",
+            export_names[current->export], current->kind, current->box.width, current->box.height,
+            info->si_addr, usable);
+    _exit(1);
+}
+
+static void *thread(void *argument)
+{
+    static uint8_t alternate[1 << 16];
+    struct job *j = argument;
+    volatile uint8_t here = 0;
+    uint8_t *frame = (uint8_t *)&here, *at = j->low;
+    sigaltstack(&(stack_t){.ss_sp = alternate, .ss_size = sizeof alternate}, NULL);
+    memset(j->low, j->paint, (size_t)(frame - j->low) - NEAR);
+    call(j);
+    while (*at == j->paint)
+        at++;
+    j->depth = (size_t)(frame - at);
+    j->own = (size_t)(stack + FULL - frame);
+    return NULL;
+}
+
+static void need(int error, const char *what)
+{
+    if (error != 0) {
+        fprintf(stderr, "stack: %s: %s\n", what, strerror(error));
+        exit(1);
+    }
+}
+
+/* Only the upper `usable` bytes of the stack can be touched. */
+static void run(struct job *j)
+{
+    pthread_t id;
+    pthread_attr_t attributes;
+    current = j;
+    j->low = stack + FULL - usable;
+    need(pthread_attr_init(&attributes), "pthread_attr_init");
+    need(pthread_attr_setstack(&attributes, stack, FULL), "pthread_attr_setstack");
+    need(pthread_create(&id, &attributes, thread, j), "pthread_create");
+    need(pthread_join(id, NULL), "pthread_join");
+    pthread_attr_destroy(&attributes);
+    if (j->depth > deepest[j->export]) {
+        deepest[j->export] = j->depth;
+        where[j->export] = j->kind;
+    }
+    if (j->own > own_most)
+        own_most = j->own;
+}
+
+/* Every export with this text and box, with room enough and with 1 byte, over two paints. */
+static unsigned run_all(struct job *j)
+{
+    size_t width = j->box.width, height = j->box.height;
+    size_t picture = width <= 2048 && height <= 2048 ? 4 * width * height : 16;
+    unsigned runs = 0;
+    for (int e = 0; e < EXPORTS; e++)
+        for (int k = 0; k < 4; k++, runs++) {
+            j->export = (enum export)e;
+            j->paint = k & 1 ? 0xa5 : 0x5a;
+            j->lent = k & 2 ? 1 : e == READ ? sizeof j->gradient : e <= PLACE_GRADIENT ? sizeof j->stops : picture;
+            run(j);
+        }
+    return runs;
+}
+
+/* Gradient and stops are zeros where the text or the box is refused. */
+static void prepare(struct job *j, const struct recipe *r, struct box box)
+{
+    j->kind = r->kind;
+    j->box = box;
+    memset(j->text, ' ', sizeof j->text);
+    memcpy(j->text, r->text, strlen(r->text));
+    j->text_length = r->length != 0 ? r->length : strlen(r->text);
+    uint32_t reply = avarezhu_read(j->text, j->text_length, j->gradient, sizeof j->gradient);
+    if (reply != r->reply) {
+        fprintf(stderr, "stack: %s: reply %u, not %u\n", r->kind, reply, r->reply);
+        exit(1);
+    }
+    avarezhu_place(j->text, j->text_length, box.width, box.height, j->stops, sizeof j->stops);
+}
+
+static unsigned run_recipes(void)
+{
+    static struct job job;
+    unsigned runs = 0;
+    for (size_t i = 0; i < COUNT(recipes); i++)
+        for (size_t k = 0; k < COUNT(boxes); k++) {
+            prepare(&job, &recipes[i], boxes[k]);
+            runs += run_all(&job);
+        }
+    return runs;
+}
+
+/* Symbols of shared libraries are looked up at their first use, which takes stack of its own. */
+static void warm_up(void)
+{
+    struct job j = {.lent = 4, .box = {1, 1}};
+    prepare(&j, &recipes[0], j.box);
+    for (int e = 0; e < EXPORTS; e++) {
+        j.export = (enum export)e;
+        call(&j);
+    }
+}
+
+static void make_stack(void)
+{
+    struct sigaction action = {.sa_flags = SA_SIGINFO | SA_ONSTACK};
+    action.sa_sigaction = on_fault;
+    sigaction(SIGSEGV, &action, NULL);
+    sigaction(SIGBUS, &action, NULL);
+    stack = mmap(NULL, FULL, PROT_READ | PROT_WRITE, MAP_PRIVATE | MAP_ANONYMOUS, -1, 0);
+    if (stack == MAP_FAILED) {
+        perror("stack: mmap");
+        exit(1);
+    }
+}
+
+static void use(size_t bytes)
+{
+    size_t page = (size_t)sysconf(_SC_PAGESIZE);
+    usable = (bytes + page - 1) / page * page;
+    if (usable >= FULL || mprotect(stack, FULL - usable, PROT_NONE) != 0) {
+        fprintf(stderr, "stack: no stack of %zu bytes\n", usable);
+        exit(1);
+    }
+}
+
+int main(void)
+{
+    int failed = 0;
+    make_stack();
+    warm_up();
+    use(FULL - (size_t)sysconf(_SC_PAGESIZE));
+    unsigned runs = run_recipes();
+    printf("stack in bytes, the most of %u calls\n", runs);
+    for (int e = 0; e < EXPORTS; e++) {
+        printf("%-24s %7zu  %s\n", export_names[e], deepest[e], where[e]);
+        failed |= deepest[e] > AVAREZHU_STACK;
+    }
+    if (failed) {
+        fprintf(stderr, "stack: more than AVAREZHU_STACK, %d\n", AVAREZHU_STACK);
+        return 1;
+    }
+    use(AVAREZHU_STACK + MARGIN);
+    runs = run_recipes();
+    printf("%u calls again within AVAREZHU_STACK = %d and a margin of %zu, %zu of it for the thread itself\n", runs,
+           AVAREZHU_STACK, usable - AVAREZHU_STACK, own_most);
+    return 0;
+}
