@@ -2,7 +2,8 @@
 -- Assumes nothing.
 use mathlib.Core.Path.{_≡_, refl}
 use mathlib.Core.List.{List}
-use Prim.Native.Nat.{ℕ, zero, suc, _*_, _≤_, _<_}
+use Prim.Native.Nat.{ℕ, zero, suc, _-_, _*_, _≤_, _<_}
+use native.Mathlib.Nat.{le-refl}
 use native.Mathlib.Omega.{arith}
 use borrow.Author.Tests.{ltb-false, not-false}
 use Rattle.gradient.specs.Check.{Accepted}
@@ -16,18 +17,21 @@ use Rattle.stops.specs.declared.PlacedStops.{PlacedStops}
 use Rattle.stops.proofs.Laws.{accepted-placed, accepted-places}
 use Rattle.placing.proofs.Replies.{box-is}
 use Rattle.color.specs.Arrays.{Holdable}
+use Rattle.rows.specs.Pixel.{Strip}
 use Rattle.drawing.specs.Replies.{roomReply, lowest, gradientReply, stopsReply}
 use Rattle.drawing.specs.Inner.{Painted}
 
 pub record Room (w h n : ℕ) : Type 0 where
   pub box : Box w h
-  pub room : 4 * w * h ≤ n
+  pub all-rows : Strip w h 0 h n
 
 pub roomy : (w h n : ℕ) → roomReply w h n ≡ 0 → Room w h n
 unfolding roomReply
 roomy w h n e =
     let k = orElse-zero _ _ e in
-    record { box = box-is w h (not-false _ (given-zero _ _ (k .0))); room = ltb-false _ _ (given-zero _ _ (k .1)) }
+    let b = box-is w h (not-false _ (given-zero _ _ (k .0))) in
+    let z : h - 0 ≡ h = omega arith in
+    record { box = b; all-rows = record { some = b .some-height; within = le-refl h; room = rw z (ltb-false n (4 * w * h) (given-zero _ _ (k .1))) } }
 
 pub record Ready (p : PlacedStops) : Type 0 where
   pub held : Holdable p
@@ -87,6 +91,6 @@ along g p w h n e =
     record { room = roomy w h n (k .0); gradient = accepted g (l .0); stops = ready p (l .1) }
 
 -- ---- a painted buffer, said of equal rules and stops
-pub painted-same : {rule rule′ : Rule} {stops stops′ : List PlacedStop} {w h : ℕ} {before after : List ℕ} → rule ≡ rule′ → stops ≡ stops′
-    → Painted rule stops w h before after → Painted rule′ stops′ w h before after
+pub painted-same : {rule rule′ : Rule} {stops stops′ : List PlacedStop} {w a b : ℕ} {before after : List ℕ} → rule ≡ rule′ → stops ≡ stops′
+    → Painted rule stops w a b before after → Painted rule′ stops′ w a b before after
 painted-same e k p = rw (← e, ← k) p

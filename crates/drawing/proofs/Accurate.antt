@@ -38,7 +38,7 @@ module _ (rule : Rule) (stops : List Stop) (w h n : ℕ) (after : List ℕ) (e :
 
 module _ (answer : ℕ) (rule : Rule) (w h : ℕ) (before after : List ℕ) where
   -- a call that is answered with 0
-  pub drawn : (l : List PlacedStop) → 0 < rule .scale → answer ≡ 0 → Painted rule l w h before after → Drawn answer rule (map stopOf l) w h 0 before after
+  pub drawn : (l : List PlacedStop) → 0 < rule .scale → answer ≡ 0 → Painted rule l w 0 h before after → Drawn answer rule (map stopOf l) w h 0 before after
   unfolding locationBy
   drawn l p a q = record {
     reply = sym a;

@@ -14,23 +14,22 @@ ghost use Rattle.stops.specs.Check.{placedOf, checkPlacedOf};
 ghost use Rattle.placing.specs.Placed.{placedIn};
 ghost use Rattle.color.specs.Stop.{stopOf};
 ghost use Rattle.color.specs.Arrays.{Holdable};
-ghost use Rattle.picture.specs.Picture.{picture, padded};
-ghost use Rattle.rows.specs.Pixel.{Placed, pixelOf};
+ghost use Rattle.rows.specs.Pixel.{Placed, Strip};
 ghost use Rattle.drawing.specs.Replies.{roomReply, lowest, gradientReply, stopsReply};
 ghost use Rattle.drawing.specs.Drawn.{Drawn};
 ghost use Rattle.drawing.specs.Inner.{Painted};
 
-// Draws the picture, then zeros.
-fn paint(l: Line, p: PlacedStops, w: usize, h: usize, buf: &mut [u8])
-    requires { ⌜ Placed l w h × Holdable p × (0 < p .count) × (4 * w * h ≤ length (now buf)) ⌝ }
-    ensures { λ _. ⌜ Painted (ruleIn l w h) (placedOf p) w h (now (buf .entry)) (now (buf .exit)) ⌝ }
+// Draws rows a up to b of the picture, then zeros.
+fn paint(l: Line, p: PlacedStops, w: usize, h: usize, a: usize, b: usize, buf: &mut [u8])
+    requires { ⌜ Placed l w h × Holdable p × (0 < p .count) × Strip w h a b (length (now buf)) ⌝ }
+    ensures { λ _. ⌜ Painted (ruleIn l w h) (placedOf p) w a b (now (buf .entry)) (now (buf .exit)) ⌝ }
 {
     let positions = color::positions_of(p);
     let values = color::values_of(p);
     let n = p.count as usize;
     let m = 4 * n;
-    rows::draw_picture(&positions[..n], &values[..m], l, w, h, buf);
-    picture::clear_from(buf, 4 * w * h);
+    rows::draw_strip(&positions[..n], &values[..m], l, w, h, a, b, buf);
+    picture::clear_from(buf, 4 * w * (b - a));
 }
 
 // The reply to a box and to a buffer of n bytes.
@@ -56,15 +55,15 @@ pub fn lower(a: u32, b: u32) -> u32
     if a <= b { a } else { b }
 }
 
-// Draws a gradient and a box that are accepted.
-fn draw_accepted(g: Gradient, w: usize, h: usize, buf: &mut [u8])
-    requires { ⌜ Box w h × Accepted g × (4 * w * h ≤ length (now buf)) ⌝ }
-    ensures { λ _. ⌜ Painted (ruleOf (g .shape) w h) (placedIn g w h) w h (now (buf .entry)) (now (buf .exit)) ⌝ }
+// Draws rows a up to b of a gradient that is accepted, then zeros.
+pub fn draw_strip(g: Gradient, w: usize, h: usize, a: usize, b: usize, buf: &mut [u8])
+    requires { ⌜ Box w h × Accepted g × Strip w h a b (length (now buf)) ⌝ }
+    ensures { λ _. ⌜ Painted (ruleOf (g .shape) w h) (placedIn g w h) w a b (now (buf .entry)) (now (buf .exit)) ⌝ }
 {
     let shape = g.shape;
     let l = line::line_of(shape, w, h);
     let p = placing::place_in_box(g, w, h);
-    paint(l, p, w, h, buf);
+    paint(l, p, w, h, a, b, buf);
 }
 
 fn gradient_reply(g: Gradient, w: usize, h: usize, n: usize) -> u32
@@ -84,7 +83,7 @@ pub fn draw_gradient(g: Gradient, w: usize, h: usize, buf: &mut [u8]) -> u32
 {
     let r = gradient_reply(g, w, h, buf.len());
     if r == 0 {
-        draw_accepted(g, w, h, buf);
+        draw_strip(g, w, h, 0, h, buf);
         return 0;
     }
     picture::clear(buf);
@@ -110,7 +109,7 @@ pub fn draw_stops(g: Gradient, p: PlacedStops, w: usize, h: usize, buf: &mut [u8
     if r == 0 {
         let shape = g.shape;
         let l = line::line_of(shape, w, h);
-        paint(l, p, w, h, buf);
+        paint(l, p, w, h, 0, h, buf);
         return 0;
     }
     picture::clear(buf);

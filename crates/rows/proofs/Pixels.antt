@@ -1,9 +1,8 @@
 -- The pixels that the code draws: a held location stands for itself, and rows and columns that are alike.
 -- Assumes nothing.
-use mathlib.Core.Path.{_≡_, refl, ap, _∙_}
+use mathlib.Core.Path.{_≡_, refl, sym, ap, _∙_}
 use mathlib.Core.List.{List}
 use Prim.Native.Nat.{ℕ, _+_, _-_, _*_, _≤_, _<_}
-use native.Mathlib.Nat.{mul-le-mul-left}
 use native.Mathlib.Omega.{arith}
 use lib.IntN.{pos}
 use lib.ListN.{length}
@@ -19,7 +18,7 @@ use Rattle.color.specs.declared.Rgba.{Rgba}
 use Rattle.color.specs.Byte.{bytes, colorAt}
 use Rattle.color.specs.Lent.{stopsOf}
 use Rattle.picture.specs.Picture.{row, copies, strip, patched}
-use Rattle.picture.proofs.Rows.{row-length, strip-more, strip-length, row-copies}
+use Rattle.picture.proofs.Rows.{row-length, strip-more, strip-length, row-copies, times-room}
 use Rattle.picture.proofs.Patches.{patch-step}
 use Rattle.rows.specs.Pixel.{lentPixel}
 
@@ -37,9 +36,9 @@ pub four : (ps vs : List ℕ) (l : Line) (w h i j : ℕ) → length (lentPixel p
 four ps vs l w h i j = refl
 
 module _ (ps vs : List ℕ) (v : HeldVector) (w h : ℕ) where
-  -- a vector with no height: every row is the first
-  pub alike : v .y ≡ 0 → (i j : ℕ) → lentPixel ps vs (L.Straight v) w h i j ≡ lentPixel ps vs (L.Straight v) w h i 0
-  alike e i j = ap (λ (q : ℕ). bytes (colorAt (stopsOf ps vs) (pos q))) (level-location v w h i j e)
+  -- a vector with no height: all rows are alike
+  pub alike : v .y ≡ 0 → (i j k : ℕ) → lentPixel ps vs (L.Straight v) w h i j ≡ lentPixel ps vs (L.Straight v) w h i k
+  alike e i j k = ap (λ (q : ℕ). bytes (colorAt (stopsOf ps vs) (pos q))) (level-location v w h i j e ∙ sym (level-location v w h i k e))
 
   -- a vector with no width: every row is its first pixel over and over
   pub plain : v .x ≡ 0 → (j : ℕ) → row (lentPixel ps vs (L.Straight v) w h) w j ≡ copies w (lentPixel ps vs (L.Straight v) w h 0 j)
@@ -47,15 +46,10 @@ module _ (ps vs : List ℕ) (v : HeldVector) (w h : ℕ) where
       row-copies (lentPixel ps vs (L.Straight v) w h) w j (lentPixel ps vs (L.Straight v) w h 0 j)
       (λ i k. ap (λ (q : ℕ). bytes (colorAt (stopsOf ps vs) (pos q))) (upright-location v w h i j e))
 
--- room for one row more, of n bytes each
-pub one-more : (n h j : ℕ) → j < h → n * j + n ≤ n * h
-one-more n h j k = let g : j + 1 ≤ h = omega arith in omega (arith, mul-le-mul-left n g)
-
--- a turn of a loop over rows: row j is put behind the rows up to j
-pub rows-turn : (px : ℕ → ℕ → List ℕ) → ((i j : ℕ) → length (px i j) ≡ 4) → (w h j o : ℕ) (d b b′ r : List ℕ) → j < h → o ≡ 4 * w * j
-    → 4 * w * h ≤ length d → b ≡ patched d 0 (strip px w 0 j) → r ≡ row px w j → b′ ≡ patched b o r → b′ ≡ patched d 0 (strip px w 0 (j + 1))
-rows-turn px each w h j o d b b′ r p e room q same put =
-    let z : j - 0 ≡ j = omega arith in
-    rw (strip-more px w 0 j (omega arith))
-    (patch-step d (strip px w 0 j) (row px w j) b b′ 0 o (rw (strip-length px each w 0 j, z) (omega arith))
-    (rw (row-length px each w j) (omega (arith, one-more (4 * w) h j p))) q (put ∙ ap (patched b o) same))
+-- a turn of a loop over rows from a on: row j is put behind the rows up to j
+pub rows-turn : (px : ℕ → ℕ → List ℕ) → ((i j : ℕ) → length (px i j) ≡ 4) → (w a b j o : ℕ) (d c c′ r : List ℕ) → a ≤ j → j < b → o ≡ 4 * w * (j - a)
+    → 4 * w * (b - a) ≤ length d → c ≡ patched d 0 (strip px w a j) → r ≡ row px w j → c′ ≡ patched c o r → c′ ≡ patched d 0 (strip px w a (j + 1))
+rows-turn px each w a b j o d c c′ r from p e room q same put =
+    rw (strip-more px w a j from)
+    (patch-step d (strip px w a j) (row px w j) c c′ 0 o (rw (strip-length px each w a j) (omega arith))
+    (rw (row-length px each w j) (omega (arith, times-room (4 * w) a b j from p))) q (put ∙ ap (patched c o) same))

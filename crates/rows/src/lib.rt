@@ -5,11 +5,11 @@ use line::Line;
 ghost use mathlib.Core.Path.{_≡_};
 ghost use Prim.Native.Nat.{_+_, _*_, _≤_, _<_};
 ghost use lib.ListN.{length};
-ghost use Rattle.picture.specs.Picture.{row, picture, patched};
+ghost use Rattle.picture.specs.Picture.{row, strip, patched};
 ghost use Rattle.color.specs.Byte.{bytes};
 ghost use Rattle.line.specs.Location.{locationBy};
 ghost use Rattle.line.specs.Held.{ruleIn};
-ghost use Rattle.rows.specs.Pixel.{Placed, Drawable, lentPixel};
+ghost use Rattle.rows.specs.Pixel.{Placed, Drawable, Strip, lentPixel};
 
 // The location of pixel (i, j). The guess changes only the time.
 fn locate(l: Line, w: usize, h: usize, i: usize, j: usize, guess: u32) -> u32
@@ -64,15 +64,24 @@ pub fn draw_row(
     }
 }
 
-// Draws all rows from the buffer's start, one after the other.
-fn draw_each(positions: &[u32], values: &[u32], l: Line, w: usize, h: usize, buf: &mut [u8])
-    requires { ⌜ Drawable (now positions) (now values) l w h × (4 * w * h ≤ length (now buf)) ⌝ }
-    ensures { λ _. ⌜ now (buf .exit) ≡ patched (now (buf .entry)) 0 (picture (lentPixel (now (positions .entry)) (now (values .entry)) l w h) w h) ⌝ }
+// Draws rows a up to b from the buffer's start, one after the other.
+fn draw_each(
+    positions: &[u32],
+    values: &[u32],
+    l: Line,
+    w: usize,
+    h: usize,
+    a: usize,
+    b: usize,
+    buf: &mut [u8],
+)
+    requires { ⌜ Drawable (now positions) (now values) l w h × Strip w h a b (length (now buf)) ⌝ }
+    ensures { λ _. ⌜ now (buf .exit) ≡ patched (now (buf .entry)) 0 (strip (lentPixel (now (positions .entry)) (now (values .entry)) l w h) w a b) ⌝ }
 {
     let n = 4 * w;
-    let mut j = 0;
+    let mut j = a;
     let mut o = 0;
-    while j < h {
+    while j < b {
         draw_row(positions, values, l, w, h, j, o, buf);
         o += n;
         j += 1;
@@ -80,24 +89,42 @@ fn draw_each(positions: &[u32], values: &[u32], l: Line, w: usize, h: usize, buf
 }
 
 // Draws the rows where they are all alike: the first, and copies of it.
-fn draw_alike(positions: &[u32], values: &[u32], v: HeldVector, w: usize, h: usize, buf: &mut [u8])
-    requires { ⌜ Drawable (now positions) (now values) (Line.Straight v) w h × (v .y ≡ 0) × (4 * w * h ≤ length (now buf)) ⌝ }
-    ensures { λ _. ⌜ now (buf .exit) ≡ patched (now (buf .entry)) 0 (picture (lentPixel (now (positions .entry)) (now (values .entry)) (Line.Straight v) w h) w h) ⌝ }
+fn draw_alike(
+    positions: &[u32],
+    values: &[u32],
+    v: HeldVector,
+    w: usize,
+    h: usize,
+    a: usize,
+    b: usize,
+    buf: &mut [u8],
+)
+    requires { ⌜ Drawable (now positions) (now values) (Line.Straight v) w h × Strip w h a b (length (now buf)) × (v .y ≡ 0) ⌝ }
+    ensures { λ _. ⌜ now (buf .exit) ≡ patched (now (buf .entry)) 0 (strip (lentPixel (now (positions .entry)) (now (values .entry)) (Line.Straight v) w h) w a b) ⌝ }
 {
-    draw_row(positions, values, Line::Straight(v), w, h, 0, 0, buf);
-    picture::copy_rows(buf, 0, 4 * w, h);
+    draw_row(positions, values, Line::Straight(v), w, h, a, 0, buf);
+    picture::copy_rows(buf, 0, 4 * w, b - a);
 }
 
 // Draws the rows where each is one pixel over and over.
-fn draw_plain(positions: &[u32], values: &[u32], v: HeldVector, w: usize, h: usize, buf: &mut [u8])
-    requires { ⌜ Drawable (now positions) (now values) (Line.Straight v) w h × (v .x ≡ 0) × (4 * w * h ≤ length (now buf)) ⌝ }
-    ensures { λ _. ⌜ now (buf .exit) ≡ patched (now (buf .entry)) 0 (picture (lentPixel (now (positions .entry)) (now (values .entry)) (Line.Straight v) w h) w h) ⌝ }
+fn draw_plain(
+    positions: &[u32],
+    values: &[u32],
+    v: HeldVector,
+    w: usize,
+    h: usize,
+    a: usize,
+    b: usize,
+    buf: &mut [u8],
+)
+    requires { ⌜ Drawable (now positions) (now values) (Line.Straight v) w h × Strip w h a b (length (now buf)) × (v .x ≡ 0) ⌝ }
+    ensures { λ _. ⌜ now (buf .exit) ≡ patched (now (buf .entry)) 0 (strip (lentPixel (now (positions .entry)) (now (values .entry)) (Line.Straight v) w h) w a b) ⌝ }
 {
     let n = 4 * w;
-    let mut j = 0;
+    let mut j = a;
     let mut o = 0;
     let mut last: u32 = 0;
-    while j < h {
+    while j < b {
         last = locate(Line::Straight(v), w, h, 0, j, last);
         let p = color::color_at(positions, values, 33554432 + last);
         picture::fill_row(buf, o, w, p.red, p.green, p.blue, p.alpha);
@@ -106,21 +133,30 @@ fn draw_plain(positions: &[u32], values: &[u32], v: HeldVector, w: usize, h: usi
     }
 }
 
-// Draws the picture from the buffer's start.
-pub fn draw_picture(positions: &[u32], values: &[u32], l: Line, w: usize, h: usize, buf: &mut [u8])
-    requires { ⌜ Drawable (now positions) (now values) l w h × (4 * w * h ≤ length (now buf)) ⌝ }
-    ensures { λ _. ⌜ now (buf .exit) ≡ patched (now (buf .entry)) 0 (picture (lentPixel (now (positions .entry)) (now (values .entry)) l w h) w h) ⌝ }
+// Draws rows a up to b of the picture from the buffer's start.
+pub fn draw_strip(
+    positions: &[u32],
+    values: &[u32],
+    l: Line,
+    w: usize,
+    h: usize,
+    a: usize,
+    b: usize,
+    buf: &mut [u8],
+)
+    requires { ⌜ Drawable (now positions) (now values) l w h × Strip w h a b (length (now buf)) ⌝ }
+    ensures { λ _. ⌜ now (buf .exit) ≡ patched (now (buf .entry)) 0 (strip (lentPixel (now (positions .entry)) (now (values .entry)) l w h) w a b) ⌝ }
 {
     match l {
         Line::Straight(v) => {
             if v.x == 0 {
-                draw_plain(positions, values, v, w, h, buf);
+                draw_plain(positions, values, v, w, h, a, b, buf);
             } else if v.y == 0 {
-                draw_alike(positions, values, v, w, h, buf);
+                draw_alike(positions, values, v, w, h, a, b, buf);
             } else {
-                draw_each(positions, values, l, w, h, buf);
+                draw_each(positions, values, l, w, h, a, b, buf);
             }
         }
-        Line::Circle(_) => draw_each(positions, values, l, w, h, buf),
+        Line::Circle(_) => draw_each(positions, values, l, w, h, a, b, buf),
     }
 }

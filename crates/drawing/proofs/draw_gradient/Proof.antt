@@ -10,10 +10,10 @@ use Rattle.drawing.proofs.draw_gradient.Tie as tie
 gradient-reply-requires : tie.Need-gradient-reply-requires
 gradient-reply-requires c κs = search needs
 
-draw-accepted-requires : tie.Need-draw-accepted-requires
-draw-accepted-requires c κs =
+draw-strip-requires : tie.Need-draw-strip-requires
+draw-strip-requires c κs =
     let k = drawable _ _ _ _ (sym (c .before .before .gradient-reply .ensures) ∙ c .before .if1 .taken) in
-    (k .room .box, k .gradient, k .room .room)
+    (k .room .box, k .gradient, k .room .all-rows)
 
 same-length : tie.Need-same-length
 same-length c = search needs
@@ -21,7 +21,7 @@ same-length c = search needs
 returns : tie.Need-returns
 returns c =
     let z = sym (c .before .before .before .before .before .gradient-reply .ensures) ∙ c .before .before .before .before .if1 .taken in
-    drawn _ _ _ _ _ _ _ (bounds .some-scale _ _ _ (drawable _ _ _ _ z .room .box)) z (c .before .before .draw-accepted .ensures)
+    drawn _ _ _ _ _ _ _ (bounds .some-scale _ _ _ (drawable _ _ _ _ z .room .box)) z (c .before .before .draw-strip .ensures)
 
 clear-requires : tie.Need-clear-requires
 clear-requires c κs = search needs
@@ -37,7 +37,7 @@ draw-gradient-spec =
     tie.close
     (tie.spec
     gradient-reply-requires
-    draw-accepted-requires
+    draw-strip-requires
     same-length
     returns
     clear-requires

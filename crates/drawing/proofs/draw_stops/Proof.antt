@@ -16,7 +16,7 @@ line-of-requires c κs = let k = along _ _ _ _ _ (sym (c .before .stops-reply .e
 paint-requires : tie.Need-paint-requires
 paint-requires c κs =
     let k = along _ _ _ _ _ (sym (c .before .before .before .stops-reply .ensures) ∙ c .before .before .if1 .taken) in
-    (record { box = k .room .box; sound = c .before .line-of .ensures .sound }, k .stops .held, k .stops .some, k .room .room)
+    (record { box = k .room .box; sound = c .before .line-of .ensures .sound }, k .stops .held, k .stops .some, k .room .all-rows)
 
 same-length : tie.Need-same-length
 same-length c = search needs

@@ -1,43 +1,46 @@
--- `rows::draw_each` meets its contract. The invariant: the rows up to j stand from the buffer's start on. Assumes nothing.
-use Rattle.rows.proofs.Pixels.{four, one-more, rows-turn}
+-- `rows::draw_each` meets its contract. The invariant: the rows from a up to j stand from the buffer's start on. Assumes nothing.
+use Rattle.rows.proofs.Pixels.{four, rows-turn}
 use mathlib.Core.Path.{_≡_, refl}
 use mathlib.Core.List.{List}
 use Prim.Native.Nat.{ℕ, _-_, _*_, _≤_}
-use native.Mathlib.Nat.{mul-zero}
+use native.Mathlib.Nat.{mul-zero, sub-self}
 use native.Mathlib.Omega.{arith}
 use denote.Ref.{now}
 use lib.ListN.{length}
 use Rattle.picture.specs.Picture.{row, strip, patched}
-use Rattle.picture.proofs.Rows.{strip-none}
+use Rattle.picture.proofs.Rows.{strip-none, times-more, times-room}
 use Rattle.picture.proofs.Patches.{patch-none}
 use Rattle.rows.specs.Pixel.{lentPixel}
-use Rattle.rows.proofs.Pixels.{four}
 use borrow.Author.Needs.{needs}
 use Rattle.rows.proofs.draw_each.Statement.{statement}
 use Rattle.rows.proofs.draw_each.Tie as tie
 
 abbrev Inv-loop : tie.InvT-loop
-Inv-loop positions values l w h buf₀ n j₀ o₀ buf j o =
-    (buf ≡ patched buf₀ 0 (strip (lentPixel positions values l w h) w 0 j)) × (o ≡ 4 * w * j) × (j ≤ h) × (length buf ≡ length buf₀)
+Inv-loop positions values l w h a b buf₀ n j₀ o₀ buf j o =
+    (buf ≡ patched buf₀ 0 (strip (lentPixel positions values l w h) w a j)) × (o ≡ 4 * w * (j - a)) × (a ≤ j) × (j ≤ b) × (length buf ≡ length buf₀)
 
 abbrev μ-loop : tie.MeasureT-loop
-μ-loop positions values l w h buf₀ n j₀ o₀ buf j o = h - j
+μ-loop positions values l w h a b buf₀ n j₀ o₀ buf j o = b - j
 
 mul-n : tie.Need-mul-n Inv-loop μ-loop
 mul-n c = search needs
 
 loop-holds : tie.Need-loop-holds Inv-loop μ-loop
-loop-holds c = (rw strip-none (patch-none (now (c .before .before .before .args .buf)) 0), rw mul-zero, omega arith, refl)
+loop-holds c =
+    let s = c .before .before .before in
+    (rw strip-none (patch-none (now (s .args .buf)) 0), rw (sub-self, mul-zero), omega arith, omega (arith, s .pre .1 .some), refl)
 
 draw-row-requires : tie.Need-draw-row-requires Inv-loop μ-loop
 draw-row-requires c κs =
     let s = c .before .before .before .before .before .before in
-    (s .pre .0, omega arith, omega (arith, one-more (4 * s .args .w) (s .args .h) (c .before .before .loop .j) (omega arith)))
+    let l = c .before .before .loop in
+    (s .pre .0, omega (arith, s .pre .1 .within), omega (arith, s .pre .1 .room, times-room (4 * s .args .w) (s .args .a) (s .args .b) (l .j) (l .inv .2) (omega arith)))
 
 add-o : tie.Need-add-o Inv-loop μ-loop
 add-o c =
-    let a = c .before .before .before .before .before .before .before .before .before .args in
-    omega (arith, one-more (4 * a .w) (a .h) (c .before .before .before .before .before .loop .j) (omega arith))
+    let s = c .before .before .before .before .before .before .before .before .before in
+    let l = c .before .before .before .before .before .loop in
+    omega (arith, s .pre .1 .room, times-room (4 * s .args .w) (s .args .a) (s .args .b) (l .j) (l .inv .2) (omega arith))
 
 add-j : tie.Need-add-j Inv-loop μ-loop
 add-j c = omega arith
@@ -50,19 +53,20 @@ loop-again c =
     let a = c .before .before .before .before .before .before .before .before .before .args in
     let l = c .before .before .before .before .before .loop in
     let px : (ℕ → ℕ → List ℕ) = lentPixel (a .positions .now) (a .values .now) (a .l) (a .w) (a .h) in (
-      rows-turn px (four (a .positions .now) (a .values .now) (a .l) (a .w) (a .h)) (a .w) (a .h) (l .j) (l .o) (now (a .buf)) (l .buf) _ (row px (a .w) (l .j))
-          (omega arith) (l .inv .1) (c .before .before .before .before .before .before .before .before .before .pre .1) (l .inv .0) refl (c .before .before .draw-row .ensures),
+      rows-turn px (four (a .positions .now) (a .values .now) (a .l) (a .w) (a .h)) (a .w) (a .a) (a .b) (l .j) (l .o) (now (a .buf)) (l .buf) _ (row px (a .w) (l .j))
+          (l .inv .2) (omega arith) (l .inv .1) (c .before .before .before .before .before .before .before .before .before .pre .1 .room) (l .inv .0) refl (c .before .before .draw-row .ensures),
+      omega (arith, times-more (4 * a .w) (a .a) (l .j) (l .inv .2)),
       omega arith,
       omega arith,
       omega arith,
     )
 
 same-length : tie.Need-same-length Inv-loop μ-loop
-same-length c = c .before .loop .inv .3
+same-length c = c .before .loop .inv .4
 
 returns : tie.Need-returns Inv-loop μ-loop
 returns c =
-    let e : c .before .loop .j ≡ c .before .before .before .before .before .args .h = omega arith in
+    let e : c .before .loop .j ≡ c .before .before .before .before .before .args .b = omega arith in
     rw e at (c .before .loop .inv .0)
 
 pub draw-each-spec : {M : Type 1} → statement M

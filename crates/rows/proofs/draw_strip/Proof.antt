@@ -1,19 +1,19 @@
--- `rows::draw_picture` meets its contract. Assumes nothing.
+-- `rows::draw_strip` meets its contract. Assumes nothing.
 use mathlib.Core.Path.{subst}
 use Rattle.line.specs.declared.Line.{Line}
 use Rattle.rows.specs.Pixel.{Drawable}
 use borrow.Author.Needs.{needs}
-use Rattle.rows.proofs.draw_picture.Statement.{statement}
-use Rattle.rows.proofs.draw_picture.Tie as tie
+use Rattle.rows.proofs.draw_strip.Statement.{statement}
+use Rattle.rows.proofs.draw_strip.Tie as tie
 
 enum-known-l : tie.Need-enum-known-l
 enum-known-l c = search needs
 
 draw-plain-requires : tie.Need-draw-plain-requires
-draw-plain-requires c κs = (subst (λ (k : Line). Drawable (c .before .before .before .before .before .before .before .before .before .args .positions .now) (c .before .before .before .before .before .before .before .before .before .args .values .now) k (c .before .before .before .before .before .before .before .before .before .args .w) (c .before .before .before .before .before .before .before .before .before .args .h)) (c .before .before .before .before .l .given .1) (c .before .before .before .before .before .before .before .before .before .pre .0), c .before .if1 .taken, c .before .before .before .before .before .before .before .before .before .pre .1)
+draw-plain-requires c κs = (subst (λ (k : Line). Drawable (c .before .before .before .before .before .before .before .before .before .args .positions .now) (c .before .before .before .before .before .before .before .before .before .args .values .now) k (c .before .before .before .before .before .before .before .before .before .args .w) (c .before .before .before .before .before .before .before .before .before .args .h)) (c .before .before .before .before .l .given .1) (c .before .before .before .before .before .before .before .before .before .pre .0), c .before .before .before .before .before .before .before .before .before .pre .1, c .before .if1 .taken)
 
 draw-alike-requires : tie.Need-draw-alike-requires
-draw-alike-requires c κs = (subst (λ (k : Line). Drawable (c .before .before .before .before .before .before .before .before .before .before .before .args .positions .now) (c .before .before .before .before .before .before .before .before .before .before .before .args .values .now) k (c .before .before .before .before .before .before .before .before .before .before .before .args .w) (c .before .before .before .before .before .before .before .before .before .before .before .args .h)) (c .before .before .before .before .before .before .l .given .1) (c .before .before .before .before .before .before .before .before .before .before .before .pre .0), c .before .if2 .taken, c .before .before .before .before .before .before .before .before .before .before .before .pre .1)
+draw-alike-requires c κs = (subst (λ (k : Line). Drawable (c .before .before .before .before .before .before .before .before .before .before .before .args .positions .now) (c .before .before .before .before .before .before .before .before .before .before .before .args .values .now) k (c .before .before .before .before .before .before .before .before .before .before .before .args .w) (c .before .before .before .before .before .before .before .before .before .before .before .args .h)) (c .before .before .before .before .before .before .l .given .1) (c .before .before .before .before .before .before .before .before .before .before .before .pre .0), c .before .before .before .before .before .before .before .before .before .before .before .pre .1, c .before .if2 .taken)
 
 draw-each-requires : tie.Need-draw-each-requires
 draw-each-requires c κs = (subst (λ (k : Line). Drawable (c .before .before .before .before .before .before .before .before .before .before .before .args .positions .now) (c .before .before .before .before .before .before .before .before .before .before .before .args .values .now) k (c .before .before .before .before .before .before .before .before .before .before .before .args .w) (c .before .before .before .before .before .before .before .before .before .before .before .args .h)) (c .before .before .before .before .before .before .l .given .1) (c .before .before .before .before .before .before .before .before .before .before .before .pre .0), c .before .before .before .before .before .before .before .before .before .before .before .pre .1)
@@ -48,8 +48,8 @@ same-length-4 c = search needs
 returns-4 : tie.Need-returns-4
 returns-4 c = search needs
 
-pub draw-picture-spec : {M : Type 1} → statement M
-draw-picture-spec =
+pub draw-strip-spec : {M : Type 1} → statement M
+draw-strip-spec =
     tie.close
     (tie.spec
     enum-known-l

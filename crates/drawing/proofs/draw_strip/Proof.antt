@@ -1,4 +1,4 @@
--- `drawing::draw_accepted` meets its contract. Assumes nothing.
+-- `drawing::draw_strip` meets its contract. Assumes nothing.
 use mathlib.Core.Path.{_≡_, sym, ap, _∙_, subst}
 use lib.ListN.{length}
 use Rattle.gradient.proofs.Lists.{unmapped}
@@ -6,8 +6,8 @@ use Rattle.stops.specs.Check.{placedOf}
 use Rattle.placing.proofs.Laws.{listed-is, placed-accepted}
 use Rattle.drawing.proofs.Accepted.{Ready, ready, painted-same}
 use borrow.Author.Needs.{needs}
-use Rattle.drawing.proofs.draw_accepted.Statement.{statement}
-use Rattle.drawing.proofs.draw_accepted.Tie as tie
+use Rattle.drawing.proofs.draw_strip.Statement.{statement}
+use Rattle.drawing.proofs.draw_strip.Tie as tie
 
 placedReady : (c : tie.After-place-in-box) → Ready (c .place-in-box .result)
 placedReady c =
@@ -33,6 +33,6 @@ same-length c = search needs
 returns : tie.Need-returns
 returns c = painted-same (c .before .before .before .before .before .line-of .ensures .is) (ap placedOf (c .before .before .before .before .place-in-box .ensures) ∙ listed-is _) (c .before .before .paint .ensures)
 
-pub draw-accepted-spec : {M : Type 1} → statement M
-draw-accepted-spec =
+pub draw-strip-spec : {M : Type 1} → statement M
+draw-strip-spec =
     tie.close (tie.spec line-of-requires place-in-box-requires paint-requires same-length returns)
