@@ -1,0 +1,102 @@
+/* What the parts of the bench share. */
+#ifndef BENCH_H
+#define BENCH_H
+
+#include <stdbool.h>
+#include <stddef.h>
+#include <stdint.h>
+#include <stdio.h>
+
+#ifdef __cplusplus
+extern "C" {
+#endif
+
+#define COUNT(array) (sizeof(array) / sizeof *(array))
+
+enum { STOPS_MAX = 16, TEXT_ROOM = 512, DIRECTIONS = 4, READINGS = 4 };
+enum { COUNT_WIDTH = 640, COUNT_HEIGHT = 480 }; /* the box in which instructions are counted */
+
+struct color {
+    uint8_t red, green, blue, alpha;
+};
+
+/* One gradient in one box: as text for the library, in numbers for the others. */
+struct picture {
+    size_t width, height;
+    const char *direction;
+    bool opaque;
+    char text[TEXT_ROOM];
+    size_t text_length;
+    bool circle;
+    double x0, y0, x1, y1; /* the ends of the line; a circle has its center in x0, y0 */
+    double radius;
+    int count; /* of stops, which stand evenly from 0 to 1 */
+    struct color stops[STOPS_MAX];
+};
+
+/* cases.c */
+extern const char *const directions[DIRECTIONS];
+struct picture make_picture(size_t width, size_t height, int direction, int count, bool opaque);
+
+struct reading {
+    const char *name, *text;
+    uint32_t reply;
+};
+extern const struct reading readings[READINGS];
+
+/* Something that fills a picture. `begin` comes before the draws that are timed and `end` after. */
+struct painter {
+    const char *name;
+    bool blue_first; /* bytes go blue, green, red, alpha; else red, green, blue, alpha */
+    void (*begin)(const struct picture *picture, uint8_t *pixels);
+    void (*draw)(void);
+    void (*end)(void);
+    const char *(*version)(void); /* NULL for none to tell */
+};
+extern const struct painter library_painter, memset_painter, cairo_painter, qt_painter;
+
+/* The painters in the order of the table. One that was not built is NULL. */
+enum { LIBRARY, MEMSET, CAIRO, QT, PAINTERS };
+extern const struct painter *const painters[PAINTERS];
+
+/* clock.c */
+double least_of_round(double least, void (*work)(void), long batch);
+long batch_for(void (*work)(void));
+
+/* How far a painter's picture is from the library's. */
+struct difference {
+    int greatest; /* over all bytes */
+    double mean;  /* of the channel where it is greatest */
+};
+
+/* One line of the table. */
+struct line {
+    const struct picture *picture;
+    double per_pixel[PAINTERS]; /* ns; 0 without the painter */
+    struct difference off[PAINTERS];
+};
+
+/* Instructions of one call, as counted before; 0 if they were not. */
+struct counts {
+    long long draw[DIRECTIONS][STOPS_MAX + 1]; /* by direction and number of stops */
+    long long read[READINGS];
+};
+
+/* report.c: the table to stdout, the same as JSON to a file if there is one. */
+struct report {
+    FILE *json;
+    bool later;                  /* past the first item of a JSON list */
+    double worst_mean[PAINTERS]; /* over all lines */
+};
+void report_machine(struct report *report, int rounds);
+void report_heading(struct report *report);
+void report_line(struct report *report, const struct line *line);
+void report_means(struct report *report, double allowed);
+void report_counts(struct report *report, const struct counts *counts);
+void report_readings(struct report *report, const double *ns, const struct counts *counts);
+
+#ifdef __cplusplus
+}
+#endif
+
+#endif

@@ -1,0 +1,90 @@
+/* The gradients that are drawn and the texts that are read. */
+#include "bench.h"
+
+#include "avarezhu.h"
+
+#include <math.h>
+#include <stdlib.h>
+#include <string.h>
+
+#define ANGLE 37.25
+#define PI 3.14159265358979323846
+
+const char *const directions[DIRECTIONS] = {"to right", "37.25deg", "to top right", "circle"};
+
+/* Steps of 14 to 44 levels from one stop to the next: steeper ones would make Qt's rounding along wide
+ * rows, which grows from pixel to pixel, look like another picture. */
+static const uint32_t palette[STOPS_MAX] = {
+    0xd16de2, 0xbc56bd, 0xcb43a6, 0xe01b8b, 0xbb3c62, 0xab4f38, 0x9a7021, 0x8a9707,
+    0x67b824, 0x4ecc42, 0x30eb2a, 0x14ca19, 0x00da39, 0x2af224, 0x52e448, 0x44c65b,
+};
+
+#define SIXTEEN                                                                            \
+    "#1b3a6b, #d9a441 5%, #8c2f39 12.5%, green, #e8e4d8 24%, navy, #b5651d 40%, #2e6f8e, " \
+    "#c94f7c, olive 55.125%, #101820, #f2c14e 70%, purple, #9fb8ad 85%, #7a1f5c80, white"
+
+const struct reading readings[READINGS] = {
+    {"short", "linear-gradient(red, blue)", AVAREZHU_DONE},
+    {"middle", "linear-gradient(37.25deg, #1b3a6b 10%, #d9a441 45.5%, white 80%)", AVAREZHU_DONE},
+    {"16 stops", "radial-gradient(circle farthest-corner at 50% 50%, " SIXTEEN ")", AVAREZHU_DONE},
+    {"refused", "radial-gradient(circle farthest-corner at 50% 50%, " SIXTEEN ",)", AVAREZHU_MALFORMED},
+};
+
+static void append(struct picture *p, const char *words) {
+    size_t length = strlen(words);
+    if (p->text_length + length > TEXT_ROOM)
+        abort();
+    memcpy(p->text + p->text_length, words, length);
+    p->text_length += length;
+}
+
+static void write_text(struct picture *p) {
+    append(p, p->circle ? "radial-gradient(" : "linear-gradient(");
+    append(p, p->direction);
+    for (int k = 0; k < p->count; k++) {
+        struct color c = p->stops[k];
+        char word[16];
+        snprintf(word, sizeof word, ", #%02x%02x%02x%02x", c.red, c.green, c.blue, c.alpha);
+        append(p, word);
+    }
+    append(p, ")");
+}
+
+/* The line runs through the middle of the box along (x, y), y downward, as far as the corners ask. */
+static void set_line(struct picture *p, double x, double y) {
+    double width = (double)p->width, height = (double)p->height, n = x * x + y * y;
+    double half = (width * fabs(x) + height * fabs(y)) / (2 * n);
+    p->x0 = width / 2 - half * x;
+    p->y0 = height / 2 - half * y;
+    p->x1 = width / 2 + half * x;
+    p->y1 = height / 2 + half * y;
+}
+
+static void set_circle(struct picture *p) {
+    p->circle = true;
+    p->x0 = (double)p->width / 2;
+    p->y0 = (double)p->height / 2;
+    p->radius = hypot(p->x0, p->y0);
+}
+
+struct picture make_picture(size_t width, size_t height, int direction, int count, bool opaque) {
+    struct picture p = {.width = width,
+                        .height = height,
+                        .direction = directions[direction],
+                        .count = count,
+                        .opaque = opaque};
+    if (direction == 0)
+        set_line(&p, 1, 0);
+    else if (direction == 1)
+        set_line(&p, sin(ANGLE * PI / 180), -cos(ANGLE * PI / 180));
+    else if (direction == 2)
+        set_line(&p, (double)height, -(double)width);
+    else
+        set_circle(&p);
+    for (int k = 0; k < count; k++) {
+        uint32_t c = palette[k * (STOPS_MAX - 1) / (count - 1)];
+        p.stops[k] = (struct color){(uint8_t)(c >> 16), (uint8_t)(c >> 8), (uint8_t)c, opaque ? 255 : 128};
+    }
+    write_text(&p);
+    return p;
+}

@@ -1,0 +1,196 @@
+/* The table, and the same as JSON. */
+#include "bench.h"
+
+#include <stdarg.h>
+#include <string.h>
+
+__attribute__((format(printf, 2, 3))) static void json(const struct report *report, const char *format, ...) {
+    if (report->json == NULL)
+        return;
+    va_list list;
+    va_start(list, format);
+    vfprintf(report->json, format, list);
+    va_end(list);
+}
+
+static void json_item(struct report *report) {
+    json(report, report->later ? ",\n    " : "\n    ");
+    report->later = true;
+}
+
+static void json_list(struct report *report, const char *name) {
+    json(report, ",\n  \"%s\": [", name);
+    report->later = false;
+}
+
+/* A figure, or null where there is none. */
+static void json_figure(const struct report *report, const char *name, double figure) {
+    if (figure > 0)
+        json(report, "\"%s\": %.4f", name, figure);
+    else
+        json(report, "\"%s\": null", name);
+}
+
+/* A figure in its column, or a dash. */
+static void column(int width, double figure) {
+    if (figure > 0)
+        printf("%*.2f", width, figure);
+    else
+        printf("%*s", width, "-");
+}
+
+static double ratio(const struct line *line, int painter) {
+    return painters[painter] == NULL ? 0 : line->per_pixel[LIBRARY] / line->per_pixel[painter];
+}
+
+static const char *version(int painter) {
+    return painters[painter] == NULL ? "left out" : painters[painter]->version();
+}
+
+/* The processor's name with all that could hurt in JSON left out. */
+static void processor(char *name, size_t room) {
+    char line[256];
+    FILE *file = fopen("/proc/cpuinfo", "r");
+    snprintf(name, room, "unknown");
+    while (file != NULL && fgets(line, sizeof line, file) != NULL) {
+        char *colon = strchr(line, ':');
+        if (strncmp(line, "model name", 10) != 0 || colon == NULL)
+            continue;
+        size_t length = 0;
+        for (char *c = colon + 1 + strspn(colon + 1, " "); *c >= ' ' && length + 1 < room; c++)
+            if (*c != '"' && *c != '\\')
+                name[length++] = *c;
+        name[length] = '\0';
+        break;
+    }
+    if (file != NULL)
+        fclose(file);
+}
+
+void report_machine(struct report *report, int rounds) {
+    char name[128];
+    processor(name, sizeof name);
+    const char *compiler = __VERSION__, *family = "gcc";
+#ifdef __clang__
+    family = "clang";
+#endif
+    printf("%s; %s %s -O2; cairo %s; Qt %s\n", name, family, compiler, version(CAIRO), version(QT));
+    printf("processor time of the process (CLOCK_PROCESS_CPUTIME_ID), least of %d rounds of 20 ms or more\n",
+           rounds);
+    json(report, "{\n  \"machine\": {\"processor\": \"%s\", \"compiler\": \"%s %s\", \"flags\": \"-O2\", ",
+         name, family, compiler);
+    json(report, "\"cairo\": \"%s\", \"qt\": \"%s\", ", version(CAIRO), version(QT));
+    json(report, "\"clock\": \"CLOCK_PROCESS_CPUTIME_ID\", \"rounds\": %d}", rounds);
+}
+
+void report_heading(struct report *report) {
+    printf("\n%-36s%34s%25s%21s\n", "DRAWING", "ns per pixel", "ratio library to", "greatest difference");
+    printf("%-11s%-14s%5s%6s", "box", "direction", "stops", "");
+    printf("%10s%8s%8s%8s", "library", "memset", "cairo", "Qt");
+    printf("%9s%8s%8s%14s%7s\n", "memset", "cairo", "Qt", "cairo", "Qt");
+    json_list(report, "draw");
+}
+
+static void json_line(struct report *report, const struct line *line) {
+    static const char *const names[PAINTERS] = {"library", "memset", "cairo", "qt"};
+    const struct picture *p = line->picture;
+    json_item(report);
+    json(report, "{\"width\": %zu, \"height\": %zu, \"direction\": \"%s\", \"stops\": %d, \"opaque\": %s",
+         p->width, p->height, p->direction, p->count, p->opaque ? "true" : "false");
+    json(report, ", \"ns_per_pixel\": {");
+    for (int k = 0; k < PAINTERS; k++) {
+        json(report, k > 0 ? ", " : "");
+        json_figure(report, names[k], line->per_pixel[k]);
+    }
+    json(report, "}, \"library_over\": {");
+    for (int k = MEMSET; k < PAINTERS; k++) {
+        json(report, k > MEMSET ? ", " : "");
+        json_figure(report, names[k], ratio(line, k));
+    }
+    json(report, "}, \"difference\": {");
+    for (int k = CAIRO; k < PAINTERS; k++) {
+        json(report, "%s\"%s\": ", k > CAIRO ? ", " : "", names[k]);
+        if (painters[k] != NULL)
+            json(report, "{\"greatest\": %d, \"mean\": %.4f}", line->off[k].greatest, line->off[k].mean);
+        else
+            json(report, "null");
+    }
+    json(report, "}}");
+}
+
+void report_line(struct report *report, const struct line *line) {
+    const struct picture *p = line->picture;
+    char box[32];
+    snprintf(box, sizeof box, "%zux%zu", p->width, p->height);
+    printf("%-11s%-14s%5d%6s", box, p->direction, p->count, p->opaque ? "" : "alpha");
+    column(10, line->per_pixel[LIBRARY]);
+    for (int k = MEMSET; k < PAINTERS; k++)
+        column(8, line->per_pixel[k]);
+    column(9, ratio(line, MEMSET));
+    column(8, ratio(line, CAIRO));
+    column(8, ratio(line, QT));
+    for (int k = CAIRO; k < PAINTERS; k++) {
+        int width = k == CAIRO ? 14 : 7;
+        if (painters[k] != NULL)
+            printf("%*d", width, line->off[k].greatest);
+        else
+            printf("%*s", width, "-");
+        if (line->off[k].mean > report->worst_mean[k])
+            report->worst_mean[k] = line->off[k].mean;
+    }
+    printf("\n");
+    fflush(stdout);
+    json_line(report, line);
+}
+
+void report_means(struct report *report, double allowed) {
+    json(report, "\n  ]");
+    for (int k = CAIRO; k < PAINTERS; k++)
+        if (painters[k] != NULL)
+            printf("mean difference from %s, worst picture and channel: %.2f levels (%.2f allowed)\n",
+                   painters[k]->name, report->worst_mean[k], allowed);
+}
+
+void report_counts(struct report *report, const struct counts *counts) {
+    const double area = COUNT_WIDTH * COUNT_HEIGHT;
+    json_list(report, "instructions_per_pixel");
+    printf("\nINSTRUCTIONS per pixel of the library at %dx%d, as callgrind counts\n", COUNT_WIDTH,
+           COUNT_HEIGHT);
+    printf("%-20s%12s%12s\n", "direction", "2 stops", "16 stops");
+    for (int direction = 0; direction < DIRECTIONS; direction++) {
+        double two = (double)counts->draw[direction][2] / area;
+        double most = (double)counts->draw[direction][STOPS_MAX] / area;
+        printf("%-20s", directions[direction]);
+        column(12, two);
+        column(12, most);
+        printf("\n");
+        json_item(report);
+        json(report, "{\"direction\": \"%s\", ", directions[direction]);
+        json_figure(report, "2 stops", two);
+        json(report, ", ");
+        json_figure(report, "16 stops", most);
+        json(report, "}");
+    }
+}
+
+void report_readings(struct report *report, const double *ns, const struct counts *counts) {
+    json(report, "\n  ]");
+    json_list(report, "read");
+    printf("\nREADING a text (avarezhu_read)\n");
+    printf("%-20s%8s%12s%8s%14s\n", "text", "bytes", "ns", "reply", "instructions");
+    for (int k = 0; k < READINGS; k++) {
+        unsigned reply = (unsigned)readings[k].reply;
+        size_t length = strlen(readings[k].text);
+        printf("%-20s%8zu%12.2f%8u", readings[k].name, length, ns[k], reply);
+        if (counts->read[k] > 0)
+            printf("%14lld\n", counts->read[k]);
+        else
+            printf("%14s\n", "-");
+        json_item(report);
+        json(report, "{\"text\": \"%s\", \"bytes\": %zu, \"ns\": %.2f, \"reply\": %u, ", readings[k].name,
+             length, ns[k], reply);
+        json_figure(report, "instructions", (double)counts->read[k]);
+        json(report, "}");
+    }
+    json(report, "\n  ]\n}\n");
+}

@@ -1,0 +1,207 @@
+/*
+ * Times the library, memset, cairo and Qt on the same pictures, and the reading of texts.
+ * They take turns: each round times all of them once, and the least of the rounds is kept for each.
+ *
+ *     timing full|quick COUNTS JSON    COUNTS holds the names of count.c, each with its instructions
+ */
+#define _GNU_SOURCE
+#include "bench.h"
+
+#include "avarezhu.h"
+
+#include <sched.h>
+#include <stdlib.h>
+#include <string.h>
+
+#define MEAN_MAX 2.0 /* more than this and it is not the same picture */
+
+enum { FULL_ROUNDS = 15, QUICK_ROUNDS = 3 };
+
+static const struct box {
+    size_t width, height;
+} boxes[] = {{64, 64}, {640, 480}, {2048, 64}, {2048, 2048}};
+static const struct box see_through = {640, 480};
+
+#ifdef WITH_CAIRO
+#define CAIRO_PAINTER &cairo_painter
+#else
+#define CAIRO_PAINTER NULL
+#endif
+#ifdef WITH_QT
+#define QT_PAINTER &qt_painter
+#else
+#define QT_PAINTER NULL
+#endif
+const struct painter *const painters[PAINTERS] = {
+    &library_painter,
+    &memset_painter,
+    CAIRO_PAINTER,
+    QT_PAINTER,
+};
+
+static uint8_t *pixels, *reference;
+
+static void fail(const char *why) {
+    fprintf(stderr, "timing: %s\n", why);
+    exit(1);
+}
+
+static uint8_t *pixel_memory(void) {
+    size_t size = AVAREZHU_PIXELS_SIZE(AVAREZHU_SIDE_MAX, AVAREZHU_SIDE_MAX);
+    uint8_t *memory = aligned_alloc(4096, size);
+    if (memory == NULL)
+        fail("no memory");
+    return memset(memory, 1, size);
+}
+
+/* A painter that spreads its work over threads gets one processor, as the others do. */
+static void stay_on_one_processor(void) {
+    cpu_set_t set;
+    int here = sched_getcpu();
+    CPU_ZERO(&set);
+    if (here >= 0)
+        CPU_SET(here, &set);
+    if (here < 0 || sched_setaffinity(0, sizeof set, &set) != 0)
+        fputs("timing: not bound to one processor\n", stderr);
+}
+
+static struct difference compare(const struct picture *p, bool blue_first) {
+    static const int straight[4] = {0, 1, 2, 3}, swapped[4] = {2, 1, 0, 3};
+    const int *order = blue_first ? swapped : straight;
+    struct difference off = {0, 0};
+    size_t area = p->width * p->height;
+    for (int channel = 0; channel < 4; channel++) {
+        long long sum = 0;
+        for (size_t k = 0; k < area; k++) {
+            int d = abs(pixels[4 * k + (size_t)order[channel]] - reference[4 * k + (size_t)channel]);
+            sum += d;
+            if (d > off.greatest)
+                off.greatest = d;
+        }
+        double mean = (double)sum / (double)area;
+        if (mean > off.mean)
+            off.mean = mean;
+    }
+    return off;
+}
+
+/* Each painter draws once, and the others' pictures are held against the library's. */
+static void check(struct line *line) {
+    const struct picture *p = line->picture;
+    size_t size = AVAREZHU_PIXELS_SIZE(p->width, p->height);
+    painters[LIBRARY]->draw();
+    memcpy(reference, pixels, size);
+    for (int k = CAIRO; k < PAINTERS; k++) {
+        if (painters[k] == NULL)
+            continue;
+        memset(pixels, 0, size);
+        painters[k]->draw();
+        line->off[k] = compare(p, painters[k]->blue_first);
+        if (line->off[k].mean <= MEAN_MAX)
+            continue;
+        fprintf(stderr, "%s draws another picture: mean difference %.2f in %zux%zu, %.*s\n",
+                painters[k]->name, line->off[k].mean, p->width, p->height, (int)p->text_length, p->text);
+        exit(1);
+    }
+}
+
+static void time_picture(struct report *report, const struct picture *p, int rounds) {
+    struct line line = {.picture = p};
+    long batch[PAINTERS];
+    for (int k = 0; k < PAINTERS; k++)
+        if (painters[k] != NULL)
+            painters[k]->begin(p, pixels);
+    check(&line);
+    for (int k = 0; k < PAINTERS; k++)
+        if (painters[k] != NULL)
+            batch[k] = batch_for(painters[k]->draw);
+    for (int round = 0; round < rounds; round++)
+        for (int k = 0; k < PAINTERS; k++)
+            if (painters[k] != NULL)
+                line.per_pixel[k] = least_of_round(line.per_pixel[k], painters[k]->draw, batch[k]);
+    for (int k = 0; k < PAINTERS; k++) {
+        if (painters[k] != NULL)
+            painters[k]->end();
+        line.per_pixel[k] /= (double)(p->width * p->height);
+    }
+    report_line(report, &line);
+}
+
+static void time_box(struct report *report, struct box box, bool opaque, int rounds) {
+    for (int direction = 0; direction < DIRECTIONS; direction++)
+        for (int stops = 2; stops <= STOPS_MAX; stops += STOPS_MAX - 2) {
+            struct picture p = make_picture(box.width, box.height, direction, stops, opaque);
+            time_picture(report, &p, rounds);
+        }
+}
+
+static const struct reading *being_read;
+static size_t being_read_length;
+
+static void read_once(void) {
+    uint8_t gradient[AVAREZHU_GRADIENT_SIZE];
+    const uint8_t *text = (const uint8_t *)being_read->text;
+    if (avarezhu_read(text, being_read_length, gradient, sizeof gradient) != being_read->reply)
+        fail("a reading has another reply than was expected");
+}
+
+static void time_readings(double *ns, int rounds) {
+    for (int round = 0; round < rounds; round++)
+        for (int k = 0; k < READINGS; k++) {
+            being_read = &readings[k];
+            being_read_length = strlen(readings[k].text);
+            ns[k] = least_of_round(ns[k], read_once, batch_for(read_once));
+        }
+}
+
+static struct counts load_counts(const char *path) {
+    static struct counts counts;
+    char line[128];
+    FILE *file = fopen(path, "r");
+    if (file == NULL)
+        fail("no file of counts");
+    while (fgets(line, sizeof line, file) != NULL) {
+        int direction, stops, which;
+        long long n;
+        if (sscanf(line, "draw %d %d %lld", &direction, &stops, &n) == 3 && direction >= 0 &&
+            direction < DIRECTIONS && stops >= 0 && stops <= STOPS_MAX)
+            counts.draw[direction][stops] = n;
+        else if (sscanf(line, "read %d %lld", &which, &n) == 2 && which >= 0 && which < READINGS)
+            counts.read[which] = n;
+        else
+            fail("a line of counts is odd");
+    }
+    fclose(file);
+    return counts;
+}
+
+static void time_all(struct report *report, bool quick, const char *counts_path) {
+    int rounds = quick ? QUICK_ROUNDS : FULL_ROUNDS;
+    struct counts counts = load_counts(counts_path);
+    double ns[READINGS] = {0};
+    report_machine(report, rounds);
+    report_heading(report);
+    for (size_t k = 0; k < COUNT(boxes); k++)
+        time_box(report, boxes[k], true, rounds);
+    if (!quick)
+        time_box(report, see_through, false, rounds);
+    report_means(report, MEAN_MAX);
+    report_counts(report, &counts);
+    time_readings(ns, rounds);
+    report_readings(report, ns, &counts);
+}
+
+int main(int argc, char **argv) {
+    if (argc != 4)
+        fail("usage: timing full|quick COUNTS JSON");
+    struct report report = {.json = fopen(argv[3], "w")};
+    if (report.json == NULL)
+        fail("the JSON file cannot be written");
+    stay_on_one_processor();
+    pixels = pixel_memory();
+    reference = pixel_memory();
+    time_all(&report, strcmp(argv[1], "quick") == 0, argv[2]);
+    free(pixels);
+    free(reference);
+    return fclose(report.json) != 0;
+}
