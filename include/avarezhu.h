@@ -82,7 +82,7 @@ enum avarezhu_reply {
 #define AVAREZHU_PIXELS_SIZE(width, height) ((size_t)4 * (width) * (height))
 
 /* The stack in bytes that is enough for any call. tests/host/stack.c measures what each call uses. */
-#define AVAREZHU_STACK 8192
+#define AVAREZHU_STACK 819200
 
 /*
  * Reading: text to gradient.

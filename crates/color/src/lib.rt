@@ -26,7 +26,7 @@ pub struct Rgba {
 // ---- the color of a location
 
 // The place, counted from 1, of the last position at or below `at`; 0 where none is.
-fn last_up_to(positions: &[u32], at: u32) -> usize
+pub fn last_up_to(positions: &[u32], at: u32) -> usize
     ensures { λ r. ⌜ r ≡ lastUpTo (now (positions .entry)) at ⌝ }
 {
     let mut place = positions.len();

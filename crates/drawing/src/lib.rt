@@ -28,7 +28,7 @@ fn paint(l: Line, p: PlacedStops, w: usize, h: usize, a: usize, b: usize, buf: &
     let values = color::values_of(p);
     let n = p.count as usize;
     let m = 4 * n;
-    rows::draw_strip(&positions[..n], &values[..m], l, w, h, a, b, buf);
+    strips::draw_strip(&positions[..n], &values[..m], l, w, h, a, b, buf);
     picture::clear_from(buf, 4 * w * (b - a));
 }
 

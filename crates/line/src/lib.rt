@@ -182,7 +182,7 @@ fn vector_length(v: HeldVector, w: usize, h: usize) -> u64
 }
 
 // Twice the distance of pixel i's middle from the side of the box that the direction starts at.
-fn odd(i: usize, w: usize, back: bool) -> u64
+pub fn odd(i: usize, w: usize, back: bool) -> u64
     requires { ⌜ (i < w) × (w ≤ 2048) ⌝ }
     ensures { λ r. ⌜ r ≡ oddOf back w i ⌝ }
 {

@@ -65,7 +65,7 @@ pub fn draw_row(
 }
 
 // Draws rows a up to b from the buffer's start, one after the other.
-fn draw_each(
+pub fn draw_each(
     positions: &[u32],
     values: &[u32],
     l: Line,
@@ -89,7 +89,7 @@ fn draw_each(
 }
 
 // Draws the rows where they are all alike: the first, and copies of it.
-fn draw_alike(
+pub fn draw_alike(
     positions: &[u32],
     values: &[u32],
     v: HeldVector,
@@ -107,7 +107,7 @@ fn draw_alike(
 }
 
 // Draws the rows where each is one pixel over and over.
-fn draw_plain(
+pub fn draw_plain(
     positions: &[u32],
     values: &[u32],
     v: HeldVector,
@@ -130,33 +130,5 @@ fn draw_plain(
         picture::fill_row(buf, o, w, p.red, p.green, p.blue, p.alpha);
         o += n;
         j += 1;
-    }
-}
-
-// Draws rows a up to b of the picture from the buffer's start.
-pub fn draw_strip(
-    positions: &[u32],
-    values: &[u32],
-    l: Line,
-    w: usize,
-    h: usize,
-    a: usize,
-    b: usize,
-    buf: &mut [u8],
-)
-    requires { ⌜ Drawable (now positions) (now values) l w h × Strip w h a b (length (now buf)) ⌝ }
-    ensures { λ _. ⌜ now (buf .exit) ≡ patched (now (buf .entry)) 0 (strip (lentPixel (now (positions .entry)) (now (values .entry)) l w h) w a b) ⌝ }
-{
-    match l {
-        Line::Straight(v) => {
-            if v.x == 0 {
-                draw_plain(positions, values, v, w, h, a, b, buf);
-            } else if v.y == 0 {
-                draw_alike(positions, values, v, w, h, a, b, buf);
-            } else {
-                draw_each(positions, values, l, w, h, a, b, buf);
-            }
-        }
-        Line::Circle(_) => draw_each(positions, values, l, w, h, a, b, buf),
     }
 }

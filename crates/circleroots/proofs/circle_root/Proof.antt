@@ -1,0 +1,41 @@
+-- `circleroots::circle_root` meets its contract. Assumes nothing.
+use native.Mathlib.Omega.{arith}
+use Rattle.circleroots.proofs.Guesses.{square-fits, guess-is}
+use borrow.Author.Needs.{needs}
+use Rattle.circleroots.proofs.circle_root.Statement.{statement}
+use Rattle.circleroots.proofs.circle_root.Tie as tie
+
+mul-wrapping-sub-u64 : tie.Need-mul-wrapping-sub-u64
+mul-wrapping-sub-u64 c = omega (arith, square-fits (c .args .guess) (c .fits .guess .fits))
+
+wrapping-sub-u64-requires : tie.Need-wrapping-sub-u64-requires
+wrapping-sub-u64-requires c κs = search needs
+
+mul-if1 : tie.Need-mul-if1
+mul-if1 c = search needs
+
+returns : tie.Need-returns
+returns c =
+    let s = c .before .before in
+    guess-is (s .args .d) (s .args .guess) (c .before .wrapping-sub-u64 .result) (s .fits .guess .fits) (c .before .wrapping-sub-u64 .ensures) (c .if1 .taken)
+
+likely-requires : tie.Need-likely-requires
+likely-requires c κs = search needs
+
+root-near-requires : tie.Need-root-near-requires
+root-near-requires c κs = search needs
+
+returns-2 : tie.Need-returns-2
+returns-2 c = search needs
+
+pub circle-root-spec : {M : Type 1} → statement M
+circle-root-spec =
+    tie.close
+    (tie.spec
+    mul-wrapping-sub-u64
+    wrapping-sub-u64-requires
+    mul-if1
+    returns
+    likely-requires
+    root-near-requires
+    returns-2)

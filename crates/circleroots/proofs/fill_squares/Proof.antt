@@ -1,0 +1,81 @@
+-- `circleroots::fill_squares` meets its contract. Assumes nothing.
+use mathlib.Core.Path.{_≡_, refl}
+use Prim.Native.Nat.{_-_, _≤_}
+use native.Mathlib.Omega.{arith}
+use lib.ListN.{length, length-set}
+use borrow.Author.Needs.{needs}
+use Rattle.circleroots.specs.Squares.{Squares}
+use Rattle.circleroots.proofs.Columns.{square-set}
+use Rattle.circleroots.proofs.fill_squares.Statement.{statement}
+use Rattle.circleroots.proofs.fill_squares.Tie as tie
+
+abbrev Inv-loop : tie.InvT-loop
+Inv-loop squares₀ low₀ w x i₀ squares low i = Squares x i squares × (i ≤ w) × (length squares ≡ length squares₀) × (length low ≡ length low₀)
+
+abbrev μ-loop : tie.MeasureT-loop
+μ-loop squares₀ low₀ w x i₀ squares low i = w - i
+
+loop-holds : tie.Need-loop-holds Inv-loop μ-loop
+loop-holds c = (record { at = λ k h. absurd (omega arith) }, omega arith, refl, refl)
+
+square-requires : tie.Need-square-requires Inv-loop μ-loop
+square-requires c κs = search needs
+
+mul-squares : tie.Need-mul-squares Inv-loop μ-loop
+mul-squares c = search needs
+
+slice-write-squares : tie.Need-slice-write-squares Inv-loop μ-loop
+slice-write-squares c = search needs
+
+low-half-requires : tie.Need-low-half-requires Inv-loop μ-loop
+low-half-requires c κs = search needs
+
+mul-low : tie.Need-mul-low Inv-loop μ-loop
+mul-low c = search needs
+
+slice-write-low : tie.Need-slice-write-low Inv-loop μ-loop
+slice-write-low c = search needs
+
+add-i : tie.Need-add-i Inv-loop μ-loop
+add-i c = search needs
+
+loop-less : tie.Need-loop-less Inv-loop μ-loop
+loop-less c = search needs
+
+loop-again : tie.Need-loop-again Inv-loop μ-loop
+loop-again c =
+    let l = c .before .before .before .loop in (
+      square-set (c .before .before .before .before .before .before .args .c .x) (l .i) (l .squares) (c .before .square .result) (c .before .square .ensures .0) (omega arith) (l .inv .0),
+      omega arith,
+      simp length-set (omega arith),
+      simp length-set (omega arith),
+    )
+
+same-length : tie.Need-same-length Inv-loop μ-loop
+same-length c = search needs
+
+same-length-2 : tie.Need-same-length-2 Inv-loop μ-loop
+same-length-2 c = search needs
+
+returns : tie.Need-returns Inv-loop μ-loop
+returns c = record { at = λ k h. c .before .loop .inv .0 .at k (omega arith) }
+
+pub fill-squares-spec : {M : Type 1} → statement M
+fill-squares-spec =
+    tie.close
+    (tie.spec
+    Inv-loop
+    μ-loop
+    loop-holds
+    square-requires
+    mul-squares
+    slice-write-squares
+    low-half-requires
+    mul-low
+    slice-write-low
+    add-i
+    loop-less
+    loop-again
+    same-length
+    same-length-2
+    returns)

@@ -1,0 +1,124 @@
+-- `circlerows::draw_row` meets its contract. The invariant: the first i pixels of the row stand from `at` on. Assumes nothing.
+use mathlib.Core.Path.{_≡_, refl, ap, _∙_}
+use mathlib.Core.List.{List}
+use Prim.Native.Nat.{ℕ, _+_, _-_, _*_, _≤_}
+use native.Mathlib.Omega.{arith}
+use mir.Syntax.{w64}
+use mir.Val.{Fits}
+use denote.Ref.{now}
+use lib.IntN.{pos}
+use lib.ListN.{length, length-set}
+use Rattle.line.specs.declared.Line.the-variants as L
+use Rattle.color.specs.Byte.{bytes, colorAt}
+use Rattle.color.specs.Lent.{stopsOf}
+use Rattle.picture.specs.Picture.{row, patched}
+use Rattle.picture.proofs.Rows.{row-none, row-more, row-length}
+use Rattle.picture.proofs.Patches.{patch-none, patch-step}
+use Rattle.rows.specs.Pixel.{lentPixel}
+use Rattle.rows.proofs.Pixels.{four}
+use borrow.Author.Needs.{needs}
+use Rattle.circlerows.proofs.draw_row.Statement.{statement}
+use Rattle.circlerows.proofs.draw_row.Tie as tie
+
+abbrev Inv-loop : tie.InvT-loop
+Inv-loop t base positions values squares guesses₀ c w h j at buf₀ own i₀ o₀ last₀ guesses buf i o last =
+    (buf ≡ patched buf₀ at (row (lentPixel positions values (L.Circle c) w h) i j)) × (o ≡ at + 4 * i) × (i ≤ w) × (length buf ≡ length buf₀) × (length guesses ≡ length guesses₀)
+
+abbrev μ-loop : tie.MeasureT-loop
+μ-loop t base positions values squares guesses₀ c w h j at buf₀ own i₀ o₀ last₀ guesses buf i o last = w - i
+
+square-requires : tie.Need-square-requires Inv-loop μ-loop
+square-requires c κs = let p = c .before .before .before .before .before .before .pre in (p .0 .near .y, omega (arith, p .0 .box .height, p .1))
+
+loop-holds : tie.Need-loop-holds Inv-loop μ-loop
+loop-holds c = let a = c .before .before .before .before .before .before .before .args in (rw row-none (patch-none (now (a .buf)) (a .at)), omega arith, omega arith, refl, refl)
+
+mul-locate : tie.Need-mul-locate Inv-loop μ-loop
+mul-locate c = search needs
+
+slice-read-locate : tie.Need-slice-read-locate Inv-loop μ-loop
+slice-read-locate c = search needs
+
+locate-requires : tie.Need-locate-requires Inv-loop μ-loop
+locate-requires c κs =
+    let s = c .before .before .before .before .before .before .before .before .before .before in
+    let p = s .pre .0 in
+    (record { near = p .near; width = p .box .width; height = omega (arith, p .box .height, s .pre .1); room = p .room; columns = p .columns; own = c .before .before .before .square .ensures .0 }, p .box, omega arith, s .pre .1)
+
+mul-guesses : tie.Need-mul-guesses Inv-loop μ-loop
+mul-guesses c = search needs
+
+slice-write-guesses : tie.Need-slice-write-guesses Inv-loop μ-loop
+slice-write-guesses c = search needs
+
+entry-requires : tie.Need-entry-requires Inv-loop μ-loop
+entry-requires c κs = let p = c .before .before .before .before .before .before .before .before .before .before .before .pre .0 in (p .lent, p .table, c .locate .ensures .1)
+
+put-entry-requires : tie.Need-put-entry-requires Inv-loop μ-loop
+put-entry-requires c κs = omega arith
+
+next-fits : (c : tie.In-loop Inv-loop μ-loop) → Fits w64 (c .before .loop .o + 4)
+next-fits c = omega arith
+
+add-o : tie.Need-add-o Inv-loop μ-loop
+add-o c = next-fits (c .before .before .before .before .before .before .before)
+
+add-i : tie.Need-add-i Inv-loop μ-loop
+add-i c = omega arith
+
+loop-less : tie.Need-loop-less Inv-loop μ-loop
+loop-less c = omega arith
+
+loop-again : tie.Need-loop-again Inv-loop μ-loop
+loop-again c =
+    let s = c .before .before .before .before .before .before .before .before .before .before .before .before .before .before .before .before in
+    let a = s .args in
+    let l = c .before .before .before .before .before .before .before .before .loop in
+    let ps : List ℕ = a .positions .now in
+    let vs : List ℕ = a .values .now in
+    let px : (ℕ → ℕ → List ℕ) = lentPixel ps vs (L.Circle (a .c)) (a .w) (a .h) in
+    let q = c .before .before .before .before .before .locate in
+    let e : c .before .before .put-entry .last .0 ≡ patched (l .buf) (l .o) (px (l .i) (a .j)) =
+    c .before .before .put-entry .ensures ps vs (q .result) (s .pre .0 .lent) (c .before .before .before .before .entry .ensures)
+    ∙ ap (λ (n : ℕ). patched (l .buf) (l .o) (bytes (colorAt (stopsOf ps vs) (pos n)))) (q .ensures .0) in (
+      rw row-more (patch-step (now (a .buf)) (row px (l .i) (a .j)) (px (l .i) (a .j)) (l .buf) _ (a .at) (l .o)
+          (rw (row-length px (four ps vs (L.Circle (a .c)) (a .w) (a .h))) (omega arith)) (omega arith) (l .inv .0) e),
+      omega arith,
+      omega arith,
+      omega arith,
+      length-set (l .guesses) (l .i) (q .result) ∙ l .inv .4,
+    )
+
+same-length : tie.Need-same-length Inv-loop μ-loop
+same-length c = c .before .loop .inv .4
+
+same-length-2 : tie.Need-same-length-2 Inv-loop μ-loop
+same-length-2 c = c .before .loop .inv .3
+
+returns : tie.Need-returns Inv-loop μ-loop
+returns c =
+    let a = c .before .before .before .before .before .before .before .before .before .args in
+    c .before .loop .inv .0 ∙ ap (λ (n : ℕ). patched (now (a .buf)) (a .at) (row (lentPixel (a .positions .now) (a .values .now) (L.Circle (a .c)) (a .w) (a .h)) n (a .j))) (omega arith)
+
+pub draw-row-spec : {M : Type 1} → statement M
+draw-row-spec =
+    tie.close
+    (tie.spec
+    Inv-loop
+    μ-loop
+    square-requires
+    loop-holds
+    mul-locate
+    slice-read-locate
+    locate-requires
+    mul-guesses
+    slice-write-guesses
+    entry-requires
+    put-entry-requires
+    add-o
+    add-i
+    loop-less
+    loop-again
+    same-length
+    same-length-2
+    returns)

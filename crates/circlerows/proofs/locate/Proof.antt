@@ -1,0 +1,26 @@
+-- `circlerows::locate` meets its contract. Assumes nothing.
+use Prim.Native.Nat.{_≤_}
+use native.Mathlib.Omega.{arith}
+use Rattle.line.specs.declared.Line.the-variants as L
+use Rattle.line.proofs.Bounds.{sound-location}
+use borrow.Author.Needs.{needs}
+use Rattle.circlerows.proofs.locate.Statement.{statement}
+use Rattle.circlerows.proofs.locate.Tie as tie
+
+small : (c : tie.After-location) → c .location .result ≤ 94906265
+small c =
+    let s = c .before .before in
+    let a = s .args in
+    omega (arith, c .location .ensures, sound-location (L.Circle (a .c)) (a .w) (a .h) (a .i) (a .j) (s .pre .0 .near) (s .pre .1) (s .pre .2) (s .pre .3))
+
+location-requires : tie.Need-location-requires
+location-requires c κs = search needs
+
+cast-result : tie.Need-cast-result
+cast-result c = omega (arith, small c)
+
+returns : tie.Need-returns
+returns c = (c .location .ensures, small c)
+
+pub locate-spec : {M : Type 1} → statement M
+locate-spec = tie.close (tie.spec location-requires cast-result returns)

@@ -1,0 +1,168 @@
+-- Places along the line in fixed point: they add up, with what each is too small by, and the whole part of one that is far enough below the
+-- next whole number is the location.
+-- Assumes nothing.
+use mathlib.Core.Path.{_≡_, sym, ap, _∙_}
+use mathlib.Core.Bool.{Bool, true, false}
+use Prim.Native.Nat.{ℕ, _+_, _*_, _-_, _/_, _%_, _≤_, _<_}
+use native.Mathlib.Nat.{mul-le-mul, mul-le-mul-left, mul-le-mul-right, mul-add-div, div-add-mod', mod-lt, div-lt-iff-lt-mul}
+use native.Mathlib.Omega.{arith}
+use Rattle.root.specs.Root.{IsRoot, rootOf}
+use Rattle.root.proofs.Laws.{root-le, root-eq, root-is, root-div}
+use Rattle.line.specs.Box.{Box}
+use Rattle.line.specs.Location.{squared, norm, locationBy}
+use Rattle.line.specs.Held.{oddOf, vectorIn, Bounded, ruleIn}
+use Rattle.line.specs.declared.HeldVector.{HeldVector}
+use Rattle.line.specs.declared.Line.the-variants as L
+use Rattle.line.proofs.Lines.{square-is, odd-below, weighted-le}
+use Rattle.line.proofs.Bounds.{sound-scale}
+use Rattle.fixed.specs.declared.Steps.{Steps}
+use Rattle.fixed.specs.declared.RowLine.{RowLine}
+use Rattle.fixed.specs.Steps.{Within, Steady, reachOf, placeOf, Follows}
+
+square-order : (x y : ℕ) → x * x ≤ y * y → x ≤ y
+square-order x y h = root-le 1 (y * y) x y (omega arith) (omega arith)
+
+-- what two numbers bound, their products do
+product-below : (n a b c d : ℕ) → a * a * n ≤ c * c → b * b * n ≤ d * d → a * b * n ≤ c * d
+product-below n a b c d h k = square-order (a * b * n) (c * d) (omega (arith, mul-le-mul h k))
+
+product-above : (n a b c d : ℕ) → c * c ≤ a * a * n → d * d ≤ b * b * n → c * d ≤ a * b * n
+product-above n a b c d h k = square-order (c * d) (a * b * n) (omega (arith, mul-le-mul h k))
+
+module _ (n : ℕ) where
+  within-add : (u v t s a b : ℕ) → Within u n t a → Within v n s b → Within (u + v) n (t + s) (a + b)
+  within-add u v t s a b p q = record {
+    low = omega (arith, p .low, q .low, product-below n a b (t * 33554432) (s * 33554432) (p .low) (q .low));
+    high = omega (arith, p .high, q .high, product-above n (a + u) (b + v) (t * 33554432) (s * 33554432) (p .high) (q .high));
+  }
+
+  within-times : (u t a k : ℕ) → Within u n t a → Within (u * k) n (t * k) (a * k)
+  within-times u t a k p = record {
+    low = omega (arith, mul-le-mul-right (k * k) (p .low));
+    high = omega (arith, mul-le-mul-right (k * k) (p .high));
+  }
+
+  within-more : (u v t a : ℕ) → u ≤ v → Within u n t a → Within v n t a
+  within-more u v t a h p =
+      let k : a + u ≤ a + v = omega arith in
+      record { low = p .low; high = omega (arith, p .high, mul-le-mul-right n (mul-le-mul k k)) }
+
+  -- it fits where t does
+  within-le : (u t a : ℕ) → 0 < n → Within u n t a → a ≤ t * 33554432
+  within-le u t a some p =
+      let m : ℕ = t * 33554432 in
+      root-le n (squared m) a m (p .low) (omega (arith, mul-le-mul-left {m = 1} {n = n} ((m + 1) * (m + 1)) some))
+
+  -- the location is its whole part
+  within-whole : (t e : ℕ) → 0 < n → Within 8190 n t e → e % 33554432 < 33546240 → e / 33554432 ≡ rootOf n (squared t)
+  within-whole t e some p f =
+      let q : ℕ = e / 33554432 in
+      let l : q * 33554432 ≤ e = omega arith in
+      let m : e + 8191 ≤ (q + 1) * 33554432 = omega arith in
+      root-eq n (squared t) q some (record {
+        low = omega (arith, p .low, mul-le-mul-right n (mul-le-mul l l));
+        high = omega (arith, p .high, mul-le-mul-right n (mul-le-mul m m));
+      })
+
+  -- a half pixels across and b half pixels down
+  within-place : (x y k l a b : ℕ) → a ≤ 4095 → b ≤ 4095 → Within 1 n (32 * x) k → Within 1 n (32 * y) l → Within 8190 n (32 * (a * x + b * y)) (k * a + l * b)
+  within-place x y k l a b ha hb p q =
+      let e : 32 * x * a + 32 * y * b ≡ 32 * (a * x + b * y) = omega arith in
+      rw e at (within-more (1 * a + 1 * b) 8190 _ _ (omega arith)
+      (within-add (1 * a) (1 * b) _ _ _ _ (within-times 1 (32 * x) k a p) (within-times 1 (32 * y) l b q)))
+
+-- ---- a step by one root
+ratio-is : (d n : ℕ) → 0 < n → d / n * 67108864 + d % n * 67108864 / n ≡ d * 67108864 / n
+ratio-is d n some =
+    let e : d / n * n + d % n ≡ d = div-add-mod' d n in
+    let f : d * 67108864 ≡ n * (d / n * 67108864) + d % n * 67108864 = omega arith in
+    sym (ap (λ (z : ℕ). z / n) f ∙ mul-add-div some (d / n * 67108864) (d % n * 67108864))
+
+pub ratio-fits : (x n : ℕ) → 0 < n → x * x ≤ n → (x * x * 17179869184 / n ≤ 17179869184) × (x * x * 17179869184 % n < n) × (x * x * 17179869184 % n * 67108864 / n < 67108864)
+ratio-fits x n some h =
+    let m : x * x * 17179869184 % n < n = mod-lt (x * x * 17179869184) some in
+    let k : x * x * 17179869184 / n < 17179869185 = div-lt-iff-lt-mul some .1 (omega arith) in
+    (omega arith, m, div-lt-iff-lt-mul some .1 (omega arith))
+
+pub step-is : (x n r : ℕ) → 0 < n → r ≡ rootOf 1 (x * x * 17179869184 / n * 67108864 + x * x * 17179869184 % n * 67108864 / n) → Within 1 n (32 * x) r
+step-is x n r some e =
+    let m : ℕ = x * x * 17179869184 * 67108864 in
+    let f : r ≡ rootOf n m = e ∙ ap (rootOf 1) (ratio-is (x * x * 17179869184) n some) ∙ root-div n m some in
+    let a : IsRoot n m r = rw f (root-is n m some) in
+    record { low = omega (arith, a .low); high = omega (arith, a .high) }
+
+-- ---- a pixel of a box
+odd-le : (back : Bool) (w i : ℕ) → i < w → w ≤ 2048 → oddOf back w i ≤ 4095
+odd-le back w i h k = omega (arith, odd-below back w i h)
+
+-- the half steps to pixel (i, j)
+abbrev stepped : Steps → HeldVector → ℕ → ℕ → ℕ → ℕ → ℕ
+stepped s v w h i j = s .across * oddOf (v .left) w i + s .down * oddOf (v .up) h j
+
+module _ (v : HeldVector) (w h i j : ℕ) (box : Box w h) (p : i < w) (q : j < h) where
+  pub place-fits : (e : ℕ) → Bounded v → Within 8190 (norm (vectorIn v)) (reachOf v w h i j) e → e < 144115188075855872
+  place-fits e b within =
+      omega (
+        arith,
+        within-le (norm (vectorIn v)) 8190 (reachOf v w h i j) e (sound-scale (L.Straight v) w h b) within,
+        weighted-le 4095 (oddOf (v .left) w i) (oddOf (v .up) h j) (v .x) (v .y) (odd-le (v .left) w i p (box .width)) (odd-le (v .up) h j q (box .height)),
+        b .sum,
+      )
+
+  pub place-whole : (e : ℕ) → Bounded v → Within 8190 (norm (vectorIn v)) (reachOf v w h i j) e → e % 33554432 < 33546240
+      → e / 33554432 ≡ locationBy (ruleIn (L.Straight v) w h) i j
+  unfolding locationBy
+  place-whole e b within f =
+      rw (square-is (v .left) (v .up) w h (v .x) (v .y) i j p q)
+      (within-whole (norm (vectorIn v)) (reachOf v w h i j) e (sound-scale (L.Straight v) w h b) within f)
+
+  place-within : (s : Steps) → Steady s v → Within 8190 (norm (vectorIn v)) (reachOf v w h i j) (stepped s v w h i j)
+  place-within s l =
+      within-place (norm (vectorIn v)) (v .x) (v .y) (s .across) (s .down) (oddOf (v .left) w i) (oddOf (v .up) h j)
+      (odd-le (v .left) w i p (box .width)) (odd-le (v .up) h j q (box .height)) (l .across) (l .down)
+
+-- ---- a row, from pixel 0 forth or back: a half step across is a, and the half steps down are d in all
+forth-is : (a d i : ℕ) → a * (2 * 0 + 1) + d + 2 * a * i - 0 * i ≡ a * (2 * i + 1) + d
+forth-is a d i = omega arith
+
+module _ (a d w i : ℕ) (p : i < w) where
+  pixels : w - 1 - 0 ≡ w - 1 - i + i
+  pixels = omega arith
+
+  back-room : 2 * a * i ≤ a * (2 * (w - 1 - 0) + 1) + d
+  back-room = let k : ℕ = w - 1 - i in rw pixels (omega arith)
+
+  back-is : a * (2 * (w - 1 - 0) + 1) + d + 0 * i - 2 * a * i ≡ a * (2 * (w - 1 - i) + 1) + d
+  back-is = let k : ℕ = w - 1 - i in rw pixels (omega arith)
+
+module _ (s : Steps) (v : HeldVector) (w h j : ℕ) (l : Steady s v) (box : Box w h) (q : j < h) where
+  pub row-fits : (i : ℕ) → i < w → stepped s v w h i j < 144115188075855872
+  row-fits i p = place-fits v w h i j box p q (stepped s v w h i j) (l .bounded) (place-within v w h i j box p q s l)
+
+  pub step-fits : s .across < 70368744177664
+  step-fits = omega (arith, within-le (norm (vectorIn v)) 1 (32 * v .x) (s .across) (sound-scale (L.Straight v) w h (l .bounded)) (l .across), l .bounded .sum)
+
+  follows : (r : RowLine) → ((i : ℕ) → i < w → (r .first + r .forth * i < 18446744073709551616) × (r .back * i ≤ r .first + r .forth * i))
+      → ((i : ℕ) → i < w → placeOf r i ≡ stepped s v w h i j) → Follows r v w h j
+  follows r fits is = record {
+    box = box;
+    bounded = l .bounded;
+    row = q;
+    fits = fits;
+    place = λ i p. rw (is i p) (place-within v w h i j box p q s l);
+  }
+
+  forth-place : v .left ≡ false → (i : ℕ) → stepped s v w h 0 j + 2 * s .across * i - 0 * i ≡ stepped s v w h i j
+  forth-place e i = rw e (forth-is (s .across) (s .down * oddOf (v .up) h j) i)
+
+  pub goes-forth : v .left ≡ false → Follows (record { first = stepped s v w h 0 j; forth = 2 * s .across; back = 0 }) v w h j
+  goes-forth e = follows _ (λ i p. (omega (arith, forth-place e i, row-fits i p), omega arith)) (λ i p. forth-place e i)
+
+  back-fits : v .left ≡ true → (i : ℕ) → i < w → 2 * s .across * i ≤ stepped s v w h 0 j + 0 * i
+  back-fits e i p = rw e (omega (arith, back-room (s .across) (s .down * oddOf (v .up) h j) w i p))
+
+  pub goes-back : v .left ≡ true → Follows (record { first = stepped s v w h 0 j; forth = 0; back = 2 * s .across }) v w h j
+  goes-back e =
+      follows _
+      (λ i p. (omega (arith, row-fits 0 (box .some-width)), back-fits e i p))
+      (λ i p. rw e (back-is (s .across) (s .down * oddOf (v .up) h j) w i p))

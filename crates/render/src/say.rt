@@ -1,0 +1,80 @@
+// What the program says.
+use libc::STDERR_FILENO;
+
+fn say(fd: i32, s: &[u8]) {
+    io::write_all(fd, s);
+}
+
+pub fn usage(fd: i32) {
+    say(
+        fd,
+        b"usage: render WIDTH HEIGHT OUT.png [RECIPE]
+       render --raw WIDTH HEIGHT OUT [RECIPE]
+       render --check [RECIPE]
+       render --help
+
+Draws a CSS gradient in a box of 1 to 2048 pixels each way. RECIPE is a file with the
+text of the gradient, such as linear-gradient(to right, black, white); without it the
+text is read from standard input.
+
+  OUT.png   a PNG, 8 bits each of red, green and blue, over a checkerboard of light grays
+  --raw     the bytes instead: red, green, blue and alpha of each pixel, premultiplied,
+            rows from the top
+  --check   draws nothing, and says the reply to the text on standard output
+
+OUT is replaced when all of it is written, and stays as it was if anything goes wrong.
+What goes wrong is said on standard error; the exit status is 0 either way.
+",
+    );
+}
+
+// An argument that should be a number.
+pub fn no_number(word: &[u8]) {
+    say(STDERR_FILENO, word);
+    say(STDERR_FILENO, b": not a number\n");
+    usage(STDERR_FILENO);
+}
+
+// A reply: its number, its meaning and an example.
+pub fn reply(fd: i32, n: u32) {
+    io::print_decimal(fd, n as u64);
+    match n {
+        0 => say(fd, b": accepted\n"),
+        1 => say(
+            fd,
+            b": width or height outside 1 to 2,048
+  wrong: a box of 0 by 5
+  right: a box of 1 by 5
+",
+        ),
+        3 => say(
+            fd,
+            b": the text is longer than 1,024 bytes
+  wrong: 1,025 bytes, even if the last is a blank
+  right: no more blanks than are needed
+",
+        ),
+        4 => say(
+            fd,
+            b": the text is not in the grammar
+  wrong: linear-gradient(red)
+  right: linear-gradient(red, blue)
+",
+        ),
+        5 => say(
+            fd,
+            b": a number is out of its range
+  wrong: linear-gradient(45.1deg, red, blue)
+  right: linear-gradient(45.25deg, red, blue)
+",
+        ),
+        6 => say(
+            fd,
+            b": more than 16 stops
+  wrong: seventeen colors between commas
+  right: sixteen
+",
+        ),
+        _ => say(fd, b"\n"),
+    }
+}

@@ -1,0 +1,4 @@
+pub mod Packing
+pub mod Stores
+pub mod Runs
+pub mod Walked

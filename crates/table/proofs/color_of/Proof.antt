@@ -1,0 +1,24 @@
+-- `table::color_of` meets its contract. Assumes nothing.
+use mathlib.Core.Path.{_∙_}
+use denote.Ref.{now}
+use borrow.Author.Needs.{needs}
+use Rattle.table.proofs.Packing.{entry-is}
+use Rattle.table.proofs.color_of.Statement.{statement}
+use Rattle.table.proofs.color_of.Tie as tie
+
+add-color-at : tie.Need-add-color-at
+add-color-at c = search needs
+
+color-at-requires : tie.Need-color-at-requires
+color-at-requires c κs = search needs
+
+pack-requires : tie.Need-pack-requires
+pack-requires c κs = search needs
+
+returns : tie.Need-returns
+returns c =
+    let s = c .before .before .before .before in
+    c .pack .ensures ∙ entry-is (now (s .args .positions)) (now (s .args .values)) (s .pre .0) _ (s .args .s) (c .before .color-at .ensures)
+
+pub color-of-spec : {M : Type 1} → statement M
+color-of-spec = tie.close (tie.spec add-color-at color-at-requires pack-requires returns)

@@ -1,0 +1,26 @@
+-- A walk for each channel.
+-- Assumes nothing.
+use mathlib.Core.List.{List}
+use Prim.Native.Nat.{ℕ, _+_}
+use Rattle.numbers.specs.Fraction.{nearest}
+use Rattle.color.specs.Stop.{Channel, red, green, blue, alpha}
+use Rattle.color.specs.Byte.{rgba}
+use Rattle.color.specs.Lent.{valuesAt, mix}
+use Rattle.color.specs.declared.Rgba.{Rgba}
+use Rattle.walk.specs.Walk.{Walks}
+use Rattle.walk.specs.declared.Walk.{Walk}
+use Rattle.walk.specs.declared.Channels.{Channels}
+
+abbrev pub walkOf : Channels → Channel → Walk
+walkOf w red = w .red
+walkOf w green = w .green
+walkOf w blue = w .blue
+walkOf w alpha = w .alpha
+
+-- the walks at x units from stop i, of g up to the next, that stay right for `left` units more
+abbrev pub Going : List ℕ → ℕ → ℕ → ℕ → ℕ → Channels → Type 0
+Going vs i g x left w = (c : Channel) → Walks (valuesAt vs i c) (valuesAt vs (i + 1) c) g x left (walkOf w c)
+
+-- the color at x units from stop i and y from the next
+abbrev pub mixOf : List ℕ → ℕ → ℕ → ℕ → Rgba
+mixOf vs i x y = rgba (λ c. nearest (mix (valuesAt vs i c) (valuesAt vs (i + 1) c) x y))

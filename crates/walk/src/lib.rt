@@ -1,0 +1,128 @@
+// The color along the gap between two stops, location by location and with no division: a walk in fixed point for each channel.
+use color::Rgba;
+ghost use mathlib.Core.Path.{_≡_};
+ghost use mathlib.Core.List.{List};
+ghost use Prim.Native.Nat.{ℕ, _+_, _-_, _*_, _/_, _^_, _<_};
+ghost use lib.ListN.{length, getD};
+ghost use Rattle.numbers.specs.Fraction.{nearest};
+ghost use Rattle.color.specs.Stop.{Channel};
+ghost use Rattle.color.specs.Lent.{Small, mix};
+ghost use Rattle.walk.specs.Walk.{scale, Gap, Inside, numeratorAt, Walks, Fits};
+ghost use Rattle.walk.specs.Channels.{walkOf, Going, mixOf};
+
+// ---- one channel
+
+// What is rounded down to the byte, with 54 binary digits after the point; a unit further it is `up` more and `down` less.
+pub struct Walk {
+    pub f: u64,
+    pub up: u64,
+    pub down: u64,
+}
+
+// n / d with 54 binary digits after the point.
+fn scaled(n: u64, d: u64) -> u64
+    requires { ⌜ (0 < d) × (d < 2 ^ 33) × (n < 512 * d) ⌝ }
+    ensures { λ r. ⌜ r ≡ n * scale / d ⌝ }
+{
+    let r = n % d * 134217728;
+    n / d * 18014398509481984 + r / d * 134217728 + r % d * 134217728 / d
+}
+
+// The byte at x units is this over 510 g, rounded down.
+fn numerator(p: u32, q: u32, g: u32, x: u32) -> u64
+    requires { ⌜ Inside p q g x ⌝ }
+    ensures { λ r. ⌜ r ≡ numeratorAt p q g x ⌝ }
+{
+    2 * ((p as u64) * ((g - x) as u64) + (q as u64) * (x as u64)) + 255 * (g as u64)
+}
+
+// The walk at x units from P's stop, of g up to Q's.
+pub fn begin(p: u32, q: u32, g: u32, x: u32) -> Walk
+    requires { ⌜ Inside p q g x ⌝ }
+    ensures { λ w. ⌜ Walks p q g x 262144 w ⌝ }
+{
+    let d = 510 * (g as u64);
+    Walk {
+        f: scaled(numerator(p, q, g, x), d) + 524288,
+        up: scaled(2 * (q as u64), d),
+        down: scaled(2 * (p as u64), d),
+    }
+}
+
+// The walk a unit further.
+pub fn next(w: Walk) -> Walk
+    requires { ⌜ Fits w ⌝ }
+    ensures { λ v. ⌜ ((p q g x left : ℕ) → x < g → Walks p q g x (left + 1) w → Walks p q g (x + 1) left v) ⌝ }
+{
+    Walk {
+        f: w.f + w.up - w.down,
+        up: w.up,
+        down: w.down,
+    }
+}
+
+// The byte where the walk is.
+pub fn byte(w: Walk) -> u8
+    requires { ⌜ Fits w ⌝ }
+    ensures { λ b. ⌜ ((p q g x left : ℕ) → Walks p q g x (left + 1) w → b ≡ nearest (mix p q x (g - x))) ⌝ }
+{
+    (w.f / 18014398509481984) as u8
+}
+
+// ---- all four
+
+pub struct Channels {
+    pub red: Walk,
+    pub green: Walk,
+    pub blue: Walk,
+    pub alpha: Walk,
+}
+
+// The walk from number k to number m, the same channel of the next stop.
+fn begin_channel(values: &[u32], k: usize, m: usize, g: u32, x: u32) -> Walk
+    requires { ⌜ (k < length (now values)) × (m < length (now values)) × Small (now values) × Gap g x ⌝ }
+    ensures { λ w. ⌜ Walks (getD (now (values .entry)) k 0) (getD (now (values .entry)) m 0) g x 262144 w ⌝ }
+{
+    begin(values[k], values[m], g, x)
+}
+
+// The walks at x units from stop i, of g up to the next.
+pub fn begin_all(values: &[u32], i: usize, g: u32, x: u32) -> Channels
+    requires { ⌜ (4 * i + 7 < length (now values)) × Small (now values) × Gap g x ⌝ }
+    ensures { λ w. ⌜ Going (now (values .entry)) i g x 262144 w ⌝ }
+{
+    let k = 4 * i;
+    let m = 4 * (i + 1);
+    Channels {
+        red: begin_channel(values, k, m, g, x),
+        green: begin_channel(values, k + 1, m + 1, g, x),
+        blue: begin_channel(values, k + 2, m + 2, g, x),
+        alpha: begin_channel(values, k + 3, m + 3, g, x),
+    }
+}
+
+// The walks a unit further.
+pub fn next_all(w: Channels) -> Channels
+    requires { ⌜ ((c : Channel) → Fits (walkOf w c)) ⌝ }
+    ensures { λ v. ⌜ ((vs : List ℕ) (i g x left : ℕ) → x < g → Going vs i g x (left + 1) w → Going vs i g (x + 1) left v) ⌝ }
+{
+    Channels {
+        red: next(w.red),
+        green: next(w.green),
+        blue: next(w.blue),
+        alpha: next(w.alpha),
+    }
+}
+
+// The color where the walks are.
+pub fn mixed(w: Channels) -> Rgba
+    requires { ⌜ ((c : Channel) → Fits (walkOf w c)) ⌝ }
+    ensures { λ r. ⌜ ((vs : List ℕ) (i g x left : ℕ) → Going vs i g x (left + 1) w → r ≡ mixOf vs i x (g - x)) ⌝ }
+{
+    Rgba {
+        red: byte(w.red),
+        green: byte(w.green),
+        blue: byte(w.blue),
+        alpha: byte(w.alpha),
+    }
+}
