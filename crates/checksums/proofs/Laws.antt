@@ -1,6 +1,6 @@
 -- Going on from a checksum: two texts, one after the other, and a loop's turn at index i of a text.
 -- Assumes nothing.
-use mathlib.Core.Path.{_≡_, refl, ap, _∙_}
+use mathlib.Core.Path.{_≡_, refl, _∙_}
 use mathlib.Core.List.{List, [], _∷_, _++_}
 use Prim.Native.Nat.{ℕ, zero, suc, _+_, _*_, _/_, _%_, _≤_, _<_}
 use native.Mathlib.Nat.{div-add-mod', mod-lt}
@@ -10,7 +10,7 @@ use lib.Arith.{bin-ind, digits-div, digits-mod}
 use lib.Bits.{bitXor, differ, xor-step, xor-self}
 use lib.ListN.{length, getD, drop, drop-of-length-le}
 use lib.Seq.{drop-cons}
-use Rattle.checksums.specs.Crc.{byteStep, register, swapped, crc}
+use Rattle.checksums.specs.Crc.{byteStep, register, crc}
 use Rattle.checksums.specs.Adler.{sums, adler}
 
 -- ---- CRC-32

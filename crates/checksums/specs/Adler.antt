@@ -9,10 +9,10 @@ unfoldable pub sums : ℕ → ℕ → List ℕ → ℕ
 sums s1 s2 [] = s2 * 65536 + s1
 sums s1 s2 (b ∷ s) = sums ((s1 + b) % 65521) ((s2 + (s1 + b) % 65521) % 65521) s
 
--- the Adler-32 of bytes with the Adler-32 c, and then s
+-- the Adler-32 of bytes whose Adler-32 is c, with s after them
 unfoldable pub adler : ℕ → List ℕ → ℕ
 adler c s = sums (c % 65536) (c / 65536) s
 
--- the Adler-32 of s: that of nothing is 1
+-- the Adler-32 of s: that of no bytes is 1
 abbrev pub adlerOf : List ℕ → ℕ
 adlerOf s = adler 1 s

@@ -31,10 +31,10 @@ register c (b ∷ s) = register (byteStep c b) s
 abbrev pub swapped : ℕ → ℕ
 swapped c = bitXor c 4294967295
 
--- the CRC-32 of bytes with the CRC-32 c, and then s
+-- the CRC-32 of bytes whose CRC-32 is c, with s after them
 unfoldable pub crc : ℕ → List ℕ → ℕ
 crc c s = swapped (register (swapped c) s)
 
--- the CRC-32 of s: that of nothing is 0
+-- the CRC-32 of s: that of no bytes is 0
 abbrev pub crcOf : List ℕ → ℕ
 crcOf s = crc 0 s

@@ -1,8 +1,7 @@
--- The known checksums of two texts, by computation.
+-- Known checksums, by computation.
 -- Assumes nothing.
 use mathlib.Core.Path.{_≡_, refl}
-use mathlib.Core.List.{List, [], _∷_}
-use Prim.Native.Nat.{ℕ}
+use mathlib.Core.List.{[], _∷_}
 use Rattle.checksums.specs.Crc.{bitStep, bits, byteStep, register, crc, crcOf}
 use Rattle.checksums.specs.Adler.{sums, adler, adlerOf}
 

@@ -1,5 +1,5 @@
-// The checksums of a PNG file: CRC-32 of its chunks, Adler-32 of its zlib stream. Each goes on from a checksum: the second part of a text, summed
-// from the checksum of the first, gives the checksum of the whole.
+// The checksums of a PNG file: CRC-32 of its chunks, Adler-32 of its zlib stream. Each goes on from the checksum of the bytes before, so that a file
+// can be summed part by part.
 ghost use mathlib.Core.Path.{_≡_};
 ghost use Rattle.checksums.specs.Crc.{bitStep, byteStep, crc};
 ghost use Rattle.checksums.specs.Adler.{adler};
@@ -21,7 +21,7 @@ fn byte_step(c: u32, b: u8) -> u32
     bit_step(bit_step(bit_step(bit_step(four))))
 }
 
-// The CRC-32 of what has the CRC-32 c, which is 0 of nothing, and then s.
+// The CRC-32 of bytes whose CRC-32 is c, 0 if there are none, with s after them.
 pub fn crc32(c: u32, s: &[u8]) -> u32
     ensures { λ r. ⌜ r ≡ crc c (now (s .entry)) ⌝ }
 {
@@ -36,7 +36,7 @@ pub fn crc32(c: u32, s: &[u8]) -> u32
 
 // ---- Adler-32
 
-// The Adler-32 of what has the Adler-32 c, which is 1 of nothing, and then s.
+// The Adler-32 of bytes whose Adler-32 is c, 1 if there are none, with s after them.
 pub fn adler32(c: u32, s: &[u8]) -> u32
     ensures { λ r. ⌜ r ≡ adler c (now (s .entry)) ⌝ }
 {

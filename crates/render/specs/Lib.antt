@@ -1,3 +1,1 @@
-pub mod Digits
-pub mod Reading
 pub mod Strips

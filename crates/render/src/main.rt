@@ -1,17 +1,17 @@
 // Draws a gradient from its text to a file: a PNG over a checkerboard, or the bytes themselves.
 mod file;
-mod input;
-mod number;
 mod say;
 
 ghost use Prim.Native.Nat.{_<_};
 ghost use Rattle.gradient.specs.Check.{Accepted};
 ghost use Rattle.line.specs.Box.{Box};
+use arguments::input;
+use arguments::input::Input;
+use arguments::number;
+use arguments::number::Number;
 use gradient::Gradient;
-use input::Input;
 use libc::STDERR_FILENO;
 use libc::STDOUT_FILENO;
-use number::Number;
 
 // Says the reply to a text.
 fn check() {
@@ -51,7 +51,7 @@ fn draw_to(i: usize, raw: bool, g: Gradient, w: usize, h: usize)
     file::write_file(&path[..n], raw, g, w, h);
 }
 
-// Draws in a box that is accepted.
+// Draws in a box that is accepted, to the file that argument `name` names.
 fn draw_in(w: usize, h: usize, name: usize, raw: bool)
     requires { ⌜ Box w h × (name < 8) ⌝ }
 {

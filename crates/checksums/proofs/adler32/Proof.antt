@@ -1,6 +1,6 @@
 -- `checksums::adler32` meets its contract. The invariant: the bytes from i on take the two sums where all of them take the first two. Assumes nothing.
 use mathlib.Core.Path.{_≡_, refl, sym, _∙_}
-use Prim.Native.Nat.{_-_, _/_, _%_, _≤_, _<_}
+use Prim.Native.Nat.{_-_, _≤_, _<_}
 use native.Mathlib.Omega.{arith}
 use lib.ListN.{length, drop}
 use denote.Ref.{now}

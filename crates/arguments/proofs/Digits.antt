@@ -1,7 +1,7 @@
 -- A number that is cut at a million on the way is the number cut at the end.
 -- Assumes nothing.
 use mathlib.Core.Path.{_≡_, refl, sym, ap, _∙_}
-use mathlib.Core.Bool.{Bool, true, false, _&&_}
+use mathlib.Core.Bool.{Bool, true, false}
 use mathlib.Core.List.{List, [], _∷_}
 use Prim.Native.Nat.{ℕ, suc, _+_, _-_, _*_, _≤_, _<_, min}
 use native.Mathlib.Nat.{min-eq-left, min-eq-right, min-le-right}
@@ -11,9 +11,8 @@ use lib.Dec.{leb}
 use lib.ListN.{length, getD, drop, drop-of-length-le}
 use lib.Seq.{drop-cons}
 use borrow.Author.Tests.{leb-true, leb-false, le-leb, lt-leb}
-use Rattle.render.specs.declared.number.Number.{Number}
-use Rattle.render.specs.declared.number.Number.the-variants.{Is, Not}
-use Rattle.render.specs.Digits.{most, digit, either, digitsOf, numberOf}
+use Rattle.arguments.specs.declared.number.Number.the-variants.{Is, Not}
+use Rattle.arguments.specs.Digits.{most, digitsOf, numberOf}
 
 min-twice : (n d : ℕ) → min (10 * min n most + d) most ≡ min (10 * n + d) most
 min-twice n d = go (leb n most) refl

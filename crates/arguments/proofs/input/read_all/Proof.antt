@@ -1,12 +1,11 @@
--- `render::input::read_all` meets its contract. The invariant: what was read fits the buffer. Assumes nothing.
+-- `arguments::input::read_all` meets its contract. The invariant: what was read fits the buffer. Assumes nothing.
 use mathlib.Core.Path.{_≡_, refl}
 use Prim.Native.Nat.{_-_, _≤_}
 use native.Mathlib.Omega.{arith}
 use lib.ListN.{length}
-use Rattle.render.specs.Reading.{Within}
 use borrow.Author.Needs.{needs}
-use Rattle.render.proofs.input.read_all.Statement.{statement}
-use Rattle.render.proofs.input.read_all.Tie as tie
+use Rattle.arguments.proofs.input.read_all.Statement.{statement}
+use Rattle.arguments.proofs.input.read_all.Tie as tie
 
 abbrev Inv-loop : tie.InvT-loop
 Inv-loop fd buf₀ n₀ buf n = (n ≤ length buf) × (length buf ≡ length buf₀)

@@ -1,14 +1,14 @@
--- `render::number::read_number` meets its contract. The invariant: the bytes from i on make of n what all of them make of 0. Assumes nothing.
-use mathlib.Core.Path.{_≡_, refl, ap, _∙_}
-use Prim.Native.Nat.{_-_, _≤_, _<_}
+-- `arguments::number::read_number` meets its contract. The invariant: the bytes from i on make of n what all of them make of 0. Assumes nothing.
+use mathlib.Core.Path.{_≡_, refl, _∙_}
+use Prim.Native.Nat.{_-_, _≤_}
 use native.Mathlib.Nat.{min-le-right}
 use native.Mathlib.Omega.{arith}
 use lib.ListN.{length, drop}
 use denote.Ref.{now}
-use Rattle.render.specs.Digits.{digitsOf}
-use Rattle.render.proofs.Digits.{number-none, number-some, digits-end, digits-below, digits-above, digits-turn}
-use Rattle.render.proofs.number.read_number.Statement.{statement}
-use Rattle.render.proofs.number.read_number.Tie as tie
+use Rattle.arguments.specs.Digits.{digitsOf}
+use Rattle.arguments.proofs.Digits.{number-none, number-some, digits-end, digits-below, digits-above, digits-turn}
+use Rattle.arguments.proofs.number.read_number.Statement.{statement}
+use Rattle.arguments.proofs.number.read_number.Tie as tie
 
 abbrev Inv-loop : tie.InvT-loop
 Inv-loop s n₀ i₀ n i = (digitsOf n (drop i s) ≡ digitsOf 0 s) × (n ≤ 1000000) × (i ≤ length s)

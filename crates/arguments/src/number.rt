@@ -1,16 +1,16 @@
 // Whole numbers as arguments.
 ghost use mathlib.Core.Path.{_≡_};
 ghost use Prim.Native.Nat.{_+_, _*_, _≤_, min};
-ghost use Rattle.render.specs.Digits.{most, numberOf};
+ghost use Rattle.arguments.specs.Digits.{most, numberOf};
 
 pub enum Number {
     Is(usize),
     Not,
 }
 
-// A number with one digit more; one of more than a million stays a million.
+// A number with one digit more, a million at most.
 fn longer(n: usize, digit: usize) -> usize
-    requires { ⌜ (n ≤ 1000000) × (digit ≤ 9) ⌝ }
+    requires { ⌜ (n ≤ most) × (digit ≤ 9) ⌝ }
     ensures { λ r. ⌜ r ≡ min (10 * n + digit) most ⌝ }
 {
     let m = 10 * n + digit;

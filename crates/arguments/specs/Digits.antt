@@ -4,8 +4,8 @@ use mathlib.Core.Bool.{Bool, true, false, _&&_}
 use mathlib.Core.List.{List, [], _∷_}
 use Prim.Native.Nat.{ℕ, _+_, _-_, _*_, min}
 use lib.Dec.{leb}
-use Rattle.render.specs.declared.number.Number.{Number}
-use Rattle.render.specs.declared.number.Number.the-variants.{Is, Not}
+use Rattle.arguments.specs.declared.number.Number.{Number}
+use Rattle.arguments.specs.declared.number.Number.the-variants.{Is, Not}
 
 abbrev pub most : ℕ
 most = 1000000

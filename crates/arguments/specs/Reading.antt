@@ -1,8 +1,8 @@
 -- What reading a text from a file answers.
 -- Assumes nothing.
 use Prim.Native.Nat.{ℕ, _≤_}
-use Rattle.render.specs.declared.input.Input.{Input}
-use Rattle.render.specs.declared.input.Input.the-variants.{Bytes, Unread}
+use Rattle.arguments.specs.declared.input.Input.{Input}
+use Rattle.arguments.specs.declared.input.Input.the-variants.{Bytes, Unread}
 
 -- the bytes that were read stand in a buffer of n bytes
 abbrev pub Within : Input → ℕ → Type 0

@@ -1,7 +1,7 @@
 // The text of a gradient, from a file or from standard input.
 ghost use Prim.Native.Nat.{_-_, _≤_};
 ghost use lib.ListN.{length};
-ghost use Rattle.render.specs.Reading.{Within};
+ghost use Rattle.arguments.specs.Reading.{Within};
 use libc::STDIN_FILENO;
 
 // How many bytes were read, or that reading failed, which is said then.
