@@ -1,7 +1,8 @@
 /*
  * Measures how much stack each export uses: it runs on a thread whose stack was painted, and the
  * lowest byte that lost its paint tells how deep the call went. Fails if that is more than
- * AVAREZHU_STACK. Then makes every call again with AVAREZHU_STACK and a small margin to run in.
+ * AVAREZHU_STACK. Then makes every call again, on no paint, with AVAREZHU_STACK and a small margin
+ * to run in.
  */
 #define _DEFAULT_SOURCE
 #include "avarezhu.h"
@@ -19,8 +20,11 @@
 enum {
     FULL = 1 << 20, /* bytes of stack to measure in */
     MARGIN = 8192,  /* bytes beside AVAREZHU_STACK: the thread's own record and first frames */
-    NEAR = 512      /* bytes below the caller's frame that stay unpainted: the painting runs there */
+    NEAR = 512,     /* bytes below the caller's frame that stay unpainted: the painting runs there */
+    LARGE = 1 << 20 /* pixels of a picture that takes long: it is measured on one paint only */
 };
+
+enum paint { NO_PAINT, PAINT = 0x5a, OTHER_PAINT = 0xa5 };
 
 enum export { READ, PLACE, PLACE_GRADIENT, DRAW, DRAW_GRADIENT, DRAW_STOPS, EXPORTS };
 static const char *const export_names[EXPORTS] = {
@@ -43,10 +47,16 @@ static const struct recipe {
     {"a corner, 16 stops", "linear-gradient(to right bottom, " SIXTEEN ")", 0, 0},
     {"a side, 2 stops", "linear-gradient(to left, red, transparent)", 0, 0},
     {"a side, 16 stops", "linear-gradient(" SIXTEEN ")", 0, 0},
+    {"to bottom", "linear-gradient(to bottom, red, #0000ff80)", 0, 0},
+    {"45 degrees", "linear-gradient(45deg, red, #0000ff80)", 0, 0},
     {"a circle, 2 stops", "radial-gradient(circle, red, #0000ff80)", 0, 0},
     {"a circle, 16 stops", "radial-gradient(farthest-side circle at top, " SIXTEEN ")", 0, 0},
+    {"a circle off the middle", "radial-gradient(circle at 30.3% 41.7%, red, #0000ff80)", 0, 0},
+    {"a circle off the middle, 16 stops", "radial-gradient(circle at 30.3% 41.7%, " SIXTEEN ")", 0, 0},
     {"a circle by its corner", "radial-gradient(circle closest-corner at 33.333% 0, red, lime)", 0, 0},
     {"a circle of a length", "radial-gradient(8192px at -8192px 1000%, red -1000%, blue 1000%)", 0, 0},
+    {"a circle far outside", "radial-gradient(circle at 1000% -8192px, " SIXTEEN ")", 0, 0},
+    {"a circle of no radius", "radial-gradient(0px at 10.5px 7px, red, lime, #0000ff80)", 0, 0},
     {"a text of 1,024 bytes", "linear-gradient(37.25deg, " SIXTEEN ")", 1024, 0},
     {"a text of 1,025 bytes", "linear-gradient(37.25deg, " SIXTEEN ")", 1025, 3},
     {"an empty text", "", 0, 4},
@@ -57,7 +67,10 @@ static const struct recipe {
 
 static const struct box {
     size_t width, height;
-} boxes[] = {{1, 1}, {16, 9}, {2048, 1}, {2048, 7}, {3, 2048}, {0, 1}, {SIZE_MAX, SIZE_MAX}};
+} boxes[] = {
+    {1, 1},     {16, 9},   {64, 64},     {640, 480}, {2048, 1},            {2048, 7},
+    {2048, 64}, {3, 2048}, {2048, 2048}, {0, 1},     {SIZE_MAX, SIZE_MAX},
+};
 
 /* One call, and how deep it went. */
 struct job {
@@ -69,12 +82,12 @@ struct job {
     uint8_t gradient[AVAREZHU_GRADIENT_SIZE];
     uint8_t stops[AVAREZHU_STOPS_SIZE];
     size_t lent;
-    uint8_t paint;
+    enum paint paint;
     uint8_t *low;
     size_t depth, own; /* below and above the frame that makes the call */
 };
 
-static uint8_t lent[4 * 2048 * 7];
+static uint8_t lent[4 * 2048 * 2048];
 static uint8_t *stack;
 static size_t usable;
 static const struct job *current;
@@ -115,18 +128,33 @@ static void on_fault(int signal, siginfo_t *info, void *context)
     _exit(1);
 }
 
+/* The first byte from `at` on that lost its paint. Words come first, for speed. */
+static uint8_t *unpainted(uint8_t *at, enum paint paint)
+{
+    uint64_t painted, word;
+    memset(&painted, paint, sizeof painted);
+    for (;; at += sizeof word) {
+        memcpy(&word, at, sizeof word);
+        if (word != painted)
+            break;
+    }
+    while (*at == paint)
+        at++;
+    return at;
+}
+
 static void *thread(void *argument)
 {
     static uint8_t alternate[1 << 16];
     struct job *j = argument;
     volatile uint8_t here = 0;
-    uint8_t *frame = (uint8_t *)&here, *at = j->low;
+    uint8_t *frame = (uint8_t *)&here;
     sigaltstack(&(stack_t){.ss_sp = alternate, .ss_size = sizeof alternate}, NULL);
-    memset(j->low, j->paint, (size_t)(frame - j->low) - NEAR);
+    if (j->paint != NO_PAINT)
+        memset(j->low, j->paint, (size_t)(frame - j->low) - NEAR);
     call(j);
-    while (*at == j->paint)
-        at++;
-    j->depth = (size_t)(frame - at);
+    if (j->paint != NO_PAINT)
+        j->depth = (size_t)(frame - unpainted(j->low, j->paint));
     j->own = (size_t)(stack + FULL - frame);
     return NULL;
 }
@@ -146,6 +174,7 @@ static void run(struct job *j)
     pthread_attr_t attributes;
     current = j;
     j->low = stack + FULL - usable;
+    j->depth = 0;
     need(pthread_attr_init(&attributes), "pthread_attr_init");
     need(pthread_attr_setstack(&attributes, stack, FULL), "pthread_attr_setstack");
     need(pthread_create(&id, &attributes, thread, j), "pthread_create");
@@ -159,17 +188,16 @@ static void run(struct job *j)
         own_most = j->own;
 }
 
-/* Every export with this text and box, with room enough and with 1 byte, over two paints. */
-static unsigned run_all(struct job *j)
+/* The exports from this one on with this text and box, with room enough and with 1 byte. */
+static unsigned run_all(struct job *j, enum export first)
 {
     size_t width = j->box.width, height = j->box.height;
     size_t picture = width <= 2048 && height <= 2048 ? 4 * width * height : 16;
     unsigned runs = 0;
-    for (int e = 0; e < EXPORTS; e++)
-        for (int k = 0; k < 4; k++, runs++) {
+    for (int e = (int)first; e < EXPORTS; e++)
+        for (int k = 0; k < 2; k++, runs++) {
             j->export = (enum export)e;
-            j->paint = k & 1 ? 0xa5 : 0x5a;
-            j->lent = k & 2 ? 1 : e == READ ? sizeof j->gradient : e <= PLACE_GRADIENT ? sizeof j->stops : picture;
+            j->lent = k ? 1 : e == READ ? sizeof j->gradient : e <= PLACE_GRADIENT ? sizeof j->stops : picture;
             run(j);
         }
     return runs;
@@ -191,14 +219,18 @@ static void prepare(struct job *j, const struct recipe *r, struct box box)
     avarezhu_place(j->text, j->text_length, box.width, box.height, j->stops, sizeof j->stops);
 }
 
-static unsigned run_recipes(void)
+/* Reading knows no box: it is run in the first only. */
+static unsigned run_recipes(enum paint paint)
 {
     static struct job job;
     unsigned runs = 0;
+    job.paint = paint;
     for (size_t i = 0; i < COUNT(recipes); i++)
         for (size_t k = 0; k < COUNT(boxes); k++) {
+            if (paint == OTHER_PAINT && boxes[k].width * boxes[k].height >= LARGE)
+                continue;
             prepare(&job, &recipes[i], boxes[k]);
-            runs += run_all(&job);
+            runs += run_all(&job, k == 0 ? READ : PLACE);
         }
     return runs;
 }
@@ -243,7 +275,8 @@ int main(void)
     make_stack();
     warm_up();
     use(FULL - (size_t)sysconf(_SC_PAGESIZE));
-    unsigned runs = run_recipes();
+    unsigned runs = run_recipes(PAINT);
+    runs += run_recipes(OTHER_PAINT);
     printf("stack in bytes, the most of %u calls\n", runs);
     for (int e = 0; e < EXPORTS; e++) {
         printf("%-24s %7zu  %s\n", export_names[e], deepest[e], where[e]);
@@ -254,7 +287,7 @@ int main(void)
         return 1;
     }
     use(AVAREZHU_STACK + MARGIN);
-    runs = run_recipes();
+    runs = run_recipes(NO_PAINT);
     printf("%u calls again within AVAREZHU_STACK = %d and a margin of %zu, %zu of it for the thread itself\n", runs,
            AVAREZHU_STACK, usable - AVAREZHU_STACK, own_most);
     return 0;

@@ -1,6 +1,6 @@
 -- The squares of columns and rows: how large they are, how a list of them is filled, and the locations that their sums have as roots.
 -- Assumes nothing.
-use mathlib.Core.Path.{_≡_, _∙_}
+use mathlib.Core.Path.{_≡_, ap, _∙_}
 use mathlib.Core.List.{List}
 use Prim.Native.Nat.{ℕ, _+_, _*_, _≤_, _<_}
 use native.Mathlib.Nat.{mul-le-mul}
@@ -8,27 +8,43 @@ use native.Mathlib.Decide.{decLe}
 use native.Mathlib.Omega.{arith}
 use lib.ListN.{length, getD, set}
 use lib.Seq.{getD-set-same, getD-set-other}
-use Rattle.numbers.specs.Held.{unheld}
+use Rattle.numbers.specs.Held.{offset, unheld}
+use Rattle.numbers.proofs.Integers.{diff-of, diff-abs}
 use Rattle.root.specs.Root.{rootOf}
-use Rattle.line.specs.Location.{locationBy}
+use Rattle.line.specs.Location.{locationBy, squared}
 use Rattle.line.specs.Circle.{from, circleRule}
 use Rattle.line.specs.Held.{centerIn}
 use Rattle.line.specs.declared.HeldCenter.{HeldCenter}
-use Rattle.line.proofs.Circles.{from-below}
-use Rattle.circleroots.specs.Squares.{squareOf, Squares, Measured}
+use Rattle.line.proofs.Circles.{from-held, from-below}
+use Rattle.circleroots.specs.Squares.{squareOf, Measured}
 
 pub square-below : (c i : ℕ) → c < 67108864 → i < 2048 → squareOf c i < 4503599627370496
 square-below c i h k =
     let f : from (unheld c) (64 * i + 32) ≤ 67108863 = omega (arith, from-below c (64 * i + 32) h (omega arith)) in
     omega (arith, mul-le-mul f f)
 
--- one more square
-pub square-set : (c i : ℕ) (l : List ℕ) (s : ℕ) → s ≡ squareOf c i → i < length l → Squares c i l → Squares c (i + 1) (set l i s)
-square-set c i l s e h q = record { at = λ k p. either k p (decLe i k) }
+-- rows on both sides of a held coordinate, as far from it
+pub square-mirrored : (c j m : ℕ) → 33554432 + 32 * (m + j + 1) ≡ c → squareOf c j ≡ squareOf c m
+square-mirrored c j m e =
+    let f : from (unheld c) (64 * j + 32) ≡ from (unheld c) (64 * m + 32) =
+    rw (
+      ← from-held c (64 * j + 32),
+      ← from-held c (64 * m + 32),
+      diff-of (64 * j + 32 + offset) c,
+      diff-of (64 * m + 32 + offset) c,
+      diff-abs (64 * j + 32 + offset) c,
+      diff-abs (64 * m + 32 + offset) c,
+    ) (omega arith) in
+    ap squared f
+
+-- one more of a list of f's numbers
+pub filled-set : (f : ℕ → ℕ) (i : ℕ) (l : List ℕ) (s : ℕ) → s ≡ f i → i < length l → ((k : ℕ) → k < i → getD l k 0 ≡ f k) → (k : ℕ) → k < i + 1
+    → getD (set l i s) k 0 ≡ f k
+filled-set f i l s e h q k p = either (decLe i k)
   where
-    either : (k : ℕ) → k < i + 1 → Dec (i ≤ k) → getD (set l i s) k 0 ≡ squareOf c k
-    either k p (yes g) = let m : k ≡ i = omega arith in rw m (getD-set-same l i s 0 h ∙ e)
-    either k p (no g) = getD-set-other l i k s 0 (λ (m : k ≡ i). omega arith) ∙ q .at k (omega arith)
+    either : Dec (i ≤ k) → getD (set l i s) k 0 ≡ f k
+    either (yes g) = let m : k ≡ i = omega arith in rw m (getD-set-same l i s 0 h ∙ e)
+    either (no g) = getD-set-other l i k s 0 (λ (m : k ≡ i). omega arith) ∙ q k (omega arith)
 
 -- ---- pixel (i, j)
 module _ (c : HeldCenter) (w j : ℕ) (l : List ℕ) (row : ℕ) (m : Measured c w j l row) (i : ℕ) (p : i < w) where

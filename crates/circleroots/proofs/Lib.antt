@@ -1,2 +1,5 @@
 pub mod Columns
+pub mod Far
+pub mod FarRows
 pub mod Guesses
+pub mod Sure

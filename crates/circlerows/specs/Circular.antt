@@ -1,7 +1,8 @@
 -- What the code that draws around a circle's center is handed.
 -- Assumes nothing.
+use mathlib.Core.Path.{_≡_}
 use mathlib.Core.List.{List}
-use Prim.Native.Nat.{ℕ, _≤_, _<_}
+use Prim.Native.Nat.{ℕ, _+_, _%_, _≤_}
 use lib.ListN.{length}
 use Rattle.line.specs.Box.{Box}
 use Rattle.line.specs.Held.{Near}
@@ -9,7 +10,7 @@ use Rattle.line.specs.declared.HeldCenter.{HeldCenter}
 use Rattle.color.specs.Lent.{Lent}
 use Rattle.rows.specs.Pixel.{Strip}
 use Rattle.table.specs.Table.{Table}
-use Rattle.circleroots.specs.Squares.{Squares}
+use Rattle.circleroots.specs.Squares.{Squares, Known}
 
 -- lent stops, a center, and rows a up to b of a box with n bytes for them
 pub record Circular (ps vs : List ℕ) (c : HeldCenter) (w h a b n : ℕ) : Type 0 where
@@ -22,7 +23,19 @@ pub record Circular (ps vs : List ℕ) (c : HeldCenter) (w h a b n : ℕ) : Type
 pub record Prepared (ps vs : List ℕ) (c : HeldCenter) (w h base : ℕ) (t squares : List ℕ) : Type 0 where
   pub lent : Lent ps vs
   pub table : Table ps vs base t
+  pub range : base + length t ≤ 33554432
   pub near : Near c
   pub box : Box w h
   pub columns : Squares (c .x) w squares
   pub room : w ≤ length squares
+
+-- the locations of row j stand in p where j is even, else in q
+pub record InTurn (c : HeldCenter) (w j : ℕ) (p q : List ℕ) : Type 0 where
+  pub even : j % 2 ≡ 0 → Known c w j p
+  pub odd : j % 2 ≡ 1 → Known c w j q
+
+-- .. those of the row k before row j
+pub record BeforeInTurn (c : HeldCenter) (w k j : ℕ) (p q : List ℕ) : Type 0 where
+  pub row : ℕ
+  pub next : row + k ≡ j
+  pub turn : InTurn c w row p q

@@ -2,17 +2,21 @@
 use line::HeldCenter;
 use line::Line;
 ghost use mathlib.Core.Path.{_≡_};
-ghost use Prim.Native.Nat.{_+_, _*_, _≤_, _<_};
-ghost use lib.ListN.{length};
+ghost use mathlib.Core.Bool.{true};
+ghost use mathlib.Core.List.{List};
+ghost use Prim.Native.Nat.{ℕ, _+_, _*_, _≤_, _<_};
+ghost use lib.ListN.{length, getD};
 ghost use Rattle.line.specs.Box.{Box};
-ghost use Rattle.line.specs.Location.{locationBy};
+ghost use Rattle.line.specs.Location.{Rule, locationBy};
 ghost use Rattle.line.specs.Held.{Near, ruleIn};
+ghost use Rattle.color.specs.Lent.{Lent, stopsOf};
 ghost use Rattle.picture.specs.Picture.{row, strip, patched};
-ghost use Rattle.rows.specs.Pixel.{lentPixel, Strip};
-ghost use Rattle.circleroots.specs.Squares.{Measured, squareOf};
-ghost use Rattle.circlerows.specs.Circular.{Circular, Prepared};
+ghost use Rattle.rows.specs.Pixel.{pixelOf, lentPixel, Strip};
+ghost use Rattle.table.specs.Table.{Table};
+ghost use Rattle.circleroots.specs.Squares.{Measured, LowHalves, Known, KnownBefore, Within};
+ghost use Rattle.circlerows.specs.Circular.{Circular, Prepared, InTurn, BeforeInTurn};
 
-// The location of pixel (i, j). The guess and the last location change only the time.
+// The location of pixel (i, j). The guess and the two locations before change only the time.
 fn locate(
     squares: &[u64],
     own: u64,
@@ -22,12 +26,13 @@ fn locate(
     i: usize,
     j: usize,
     guess: u32,
+    before: u32,
     last: u32,
 ) -> u32
     requires { ⌜ Measured c w j (now squares) own × Box w h × (i < w) × (j < h) ⌝ }
     ensures { λ q. ⌜ (q ≡ locationBy (ruleIn (Line.Circle c) w h) i j) × (q ≤ 94906265) ⌝ }
 {
-    circleroots::location(squares, own, c, w, i, j, guess, last) as u32
+    circleroots::location(squares, own, c, w, i, j, guess, before, last) as u32
 }
 
 // Draws row j from `at` on, with guesses at its locations, in place of which the locations are left.
@@ -46,23 +51,90 @@ fn draw_row(
     buf: &mut [u8],
 )
     requires { ⌜ Prepared (now positions) (now values) c w h base (now t) (now squares) × (j < h) × (w ≤ length (now guesses)) × (at + 4 * w ≤ length (now buf)) ⌝ }
-    ensures { λ _. ⌜ now (buf .exit) ≡ patched (now (buf .entry)) at (row (lentPixel (now (positions .entry)) (now (values .entry)) (Line.Circle c) w h) w j) ⌝ }
+    ensures { λ _. ⌜ (now (buf .exit) ≡ patched (now (buf .entry)) at (row (lentPixel (now (positions .entry)) (now (values .entry)) (Line.Circle c) w h) w j)) × Known c w j (now (guesses .exit)) ⌝ }
 {
     let own = circleroots::square(c.y, j);
     let mut i = 0;
     let mut o = at;
-    let mut last: u32 = 0;
+    let mut before = guesses[0];
+    let mut last = before;
     while i < w {
-        last = locate(squares, own, c, w, h, i, j, guesses[i], last);
-        guesses[i] = last;
-        let e = table::entry(t, base, positions, values, last);
+        let s = locate(squares, own, c, w, h, i, j, guesses[i], before, last);
+        guesses[i] = s;
+        before = last;
+        last = s;
+        let e = table::entry(t, base, positions, values, s);
         table::put_entry(buf, o, e);
         o += 4;
         i += 1;
     }
 }
 
-// Draws row j, with the locations of the two rows before as guesses, in turn.
+// Draws a row of pixels from `at` on whose locations are known, and in the table.
+fn draw_known(t: &[u32], base: u32, known: &[u32], w: usize, at: usize, buf: &mut [u8])
+    requires { ⌜ Within base (length (now t)) w (now known) × (w ≤ length (now known)) × (at + 4 * w ≤ length (now buf)) ⌝ }
+    ensures { λ _. ⌜ ((ps vs : List ℕ) (rule : Rule) (j : ℕ) → Lent ps vs → Table ps vs base (now (t .entry))
+        → ((i : ℕ) → i < w → getD (now (known .entry)) i 0 ≡ locationBy rule i j)
+        → now (buf .exit) ≡ patched (now (buf .entry)) at (row (pixelOf rule (stopsOf ps vs)) w j)) ⌝ }
+{
+    let mut i = 0;
+    let mut o = at;
+    while i < w {
+        let k = (known[i] - base) as usize;
+        table::put_entry(buf, o, t[k]);
+        o += 4;
+        i += 1;
+    }
+}
+
+// Draws row j from `at` on, and leaves its locations in place of those of the row two before it. `last` has those of the row before, if the first
+// flag is set; where all guesses then pass their tests, none is looked at again. `before` has those of the row two before, if the second is.
+fn draw_next(
+    t: &[u32],
+    base: u32,
+    positions: &[u32],
+    values: &[u32],
+    squares: &[u64],
+    low: &[u32],
+    before: &mut [u32],
+    last: &[u32],
+    follows: bool,
+    both: bool,
+    c: HeldCenter,
+    w: usize,
+    h: usize,
+    j: usize,
+    at: usize,
+    buf: &mut [u8],
+)
+    requires { ⌜ Prepared (now positions) (now values) c w h base (now t) (now squares) × (j < h) × LowHalves (c .x) w (now low) × (w ≤ length (now before)) × (w ≤ length (now last)) × (at + 4 * w ≤ length (now buf)) × (follows ≡ true → KnownBefore c w 1 j (now last)) × (both ≡ true → KnownBefore c w 2 j (now before)) ⌝ }
+    ensures { λ _. ⌜ (now (buf .exit) ≡ patched (now (buf .entry)) at (row (lentPixel (now (positions .entry)) (now (values .entry)) (Line.Circle c) w h) w j)) × Known c w j (now (before .exit)) ⌝ }
+{
+    let n = t.len() as u32;
+    let failed = circleroots::next_row(before, last, low, both, c, w, j, base, n);
+    if follows {
+        if failed == 0 {
+            draw_known(t, base, before, w, at, buf);
+            return;
+        }
+    }
+    draw_row(
+        t,
+        base,
+        positions,
+        values,
+        squares,
+        before,
+        c,
+        w,
+        h,
+        j,
+        at,
+        buf,
+    );
+}
+
+// Draws row j, with the locations of the two rows before, in turn.
 fn draw_turn(
     t: &[u32],
     base: u32,
@@ -72,6 +144,8 @@ fn draw_turn(
     low: &[u32],
     p: &mut [u32],
     q: &mut [u32],
+    follows: bool,
+    both: bool,
     c: HeldCenter,
     w: usize,
     h: usize,
@@ -79,20 +153,51 @@ fn draw_turn(
     at: usize,
     buf: &mut [u8],
 )
-    requires { ⌜ Prepared (now positions) (now values) c w h base (now t) (now squares) × (j < h) × (w ≤ length (now low)) × (w ≤ length (now p)) × (w ≤ length (now q)) × (at + 4 * w ≤ length (now buf)) ⌝ }
-    ensures { λ _. ⌜ now (buf .exit) ≡ patched (now (buf .entry)) at (row (lentPixel (now (positions .entry)) (now (values .entry)) (Line.Circle c) w h) w j) ⌝ }
+    requires { ⌜ Prepared (now positions) (now values) c w h base (now t) (now squares) × (j < h) × LowHalves (c .x) w (now low) × (w ≤ length (now p)) × (w ≤ length (now q)) × (at + 4 * w ≤ length (now buf)) × (follows ≡ true → BeforeInTurn c w 1 j (now p) (now q)) × (both ≡ true → BeforeInTurn c w 2 j (now p) (now q)) ⌝ }
+    ensures { λ _. ⌜ (now (buf .exit) ≡ patched (now (buf .entry)) at (row (lentPixel (now (positions .entry)) (now (values .entry)) (Line.Circle c) w h) w j)) × InTurn c w j (now (p .exit)) (now (q .exit)) × (follows ≡ true → BeforeInTurn c w 1 j (now (p .exit)) (now (q .exit))) ⌝ }
 {
-    let own = circleroots::square(c.y, j);
     if j % 2 == 0 {
-        circleroots::guess_row(p, q, low, own, w);
-        draw_row(t, base, positions, values, squares, p, c, w, h, j, at, buf);
+        draw_next(
+            t,
+            base,
+            positions,
+            values,
+            squares,
+            low,
+            p,
+            q,
+            follows,
+            both,
+            c,
+            w,
+            h,
+            j,
+            at,
+            buf,
+        );
     } else {
-        circleroots::guess_row(q, p, low, own, w);
-        draw_row(t, base, positions, values, squares, q, c, w, h, j, at, buf);
+        draw_next(
+            t,
+            base,
+            positions,
+            values,
+            squares,
+            low,
+            q,
+            p,
+            follows,
+            both,
+            c,
+            w,
+            h,
+            j,
+            at,
+            buf,
+        );
     }
 }
 
-// Draws rows a up to b from the buffer's start.
+// Draws rows a up to b from the buffer's start. A row as far from the center as one before it is copied.
 fn draw_rows(
     t: &[u32],
     base: u32,
@@ -109,29 +214,42 @@ fn draw_rows(
     b: usize,
     buf: &mut [u8],
 )
-    requires { ⌜ Prepared (now positions) (now values) c w h base (now t) (now squares) × (w ≤ length (now low)) × (w ≤ length (now p)) × (w ≤ length (now q)) × Strip w h a b (length (now buf)) ⌝ }
+    requires { ⌜ Prepared (now positions) (now values) c w h base (now t) (now squares) × LowHalves (c .x) w (now low) × (w ≤ length (now p)) × (w ≤ length (now q)) × Strip w h a b (length (now buf)) ⌝ }
     ensures { λ _. ⌜ now (buf .exit) ≡ patched (now (buf .entry)) 0 (strip (lentPixel (now (positions .entry)) (now (values .entry)) (Line.Circle c) w h) w a b) ⌝ }
 {
     let n = 4 * w;
     let mut j = a;
     let mut o = 0;
+    let mut follows = false;
+    let mut both = false;
     while j < b {
-        draw_turn(
-            t,
-            base,
-            positions,
-            values,
-            squares,
-            low,
-            p,
-            q,
-            c,
-            w,
-            h,
-            j,
-            o,
-            buf,
-        );
+        let m = circleroots::mirrored(c.y, a, j);
+        if m < j {
+            picture::copy_row(buf, n * (m - a), o, n);
+            follows = false;
+            both = false;
+        } else {
+            draw_turn(
+                t,
+                base,
+                positions,
+                values,
+                squares,
+                low,
+                p,
+                q,
+                follows,
+                both,
+                c,
+                w,
+                h,
+                j,
+                o,
+                buf,
+            );
+            both = follows;
+            follows = true;
+        }
         o += n;
         j += 1;
     }
@@ -225,21 +343,6 @@ fn draw_large(
     draw_with(&mut t[..n], base, positions, values, c, w, h, a, b, buf);
 }
 
-// Of columns or rows a up to b the one that a coordinate of the center lies in, or the nearest.
-fn nearest(c: u32, a: usize, b: usize) -> usize
-    requires { ⌜ a < b ⌝ }
-    ensures { λ r. ⌜ r < b ⌝ }
-{
-    if c <= 33554432 {
-        return a;
-    }
-    let k = ((c - 33554432) / 64) as usize;
-    if k < a {
-        return a;
-    }
-    if k < b { k } else { b - 1 }
-}
-
 // Of columns or rows a up to b the one that is farthest from a coordinate of the center.
 fn farthest(c: u32, a: usize, b: usize) -> usize
     requires { ⌜ (a < b) × (b ≤ 2048) ⌝ }
@@ -274,7 +377,13 @@ pub fn draw_circle(
     requires { ⌜ Circular (now positions) (now values) c w h a b (length (now buf)) ⌝ }
     ensures { λ _. ⌜ now (buf .exit) ≡ patched (now (buf .entry)) 0 (strip (lentPixel (now (positions .entry)) (now (values .entry)) (Line.Circle c) w h) w a b) ⌝ }
 {
-    let first = at_pixel(c, w, h, nearest(c.x, 0, w), nearest(c.y, a, b));
+    let first = at_pixel(
+        c,
+        w,
+        h,
+        circleroots::nearest(c.x, 0, w),
+        circleroots::nearest(c.y, a, b),
+    );
     let last = at_pixel(c, w, h, farthest(c.x, 0, w), farthest(c.y, a, b));
     let n = table::span(first, last);
     let base = if first <= 33000000 { first } else { 0 };

@@ -4,7 +4,8 @@
 use mathlib.Core.Path.{_≡_, sym, ap, _∙_}
 use mathlib.Core.Bool.{Bool, true, false}
 use Prim.Native.Nat.{ℕ, _+_, _*_, _-_, _/_, _%_, _≤_, _<_}
-use native.Mathlib.Nat.{mul-le-mul, mul-le-mul-left, mul-le-mul-right, mul-add-div, div-add-mod', mod-lt, div-lt-iff-lt-mul}
+use native.Mathlib.Nat.{add-zero, sub-zero, mul-le-mul, mul-le-mul-left, mul-le-mul-right, mul-add-div, div-add-mod', mod-lt, div-lt-iff-lt-mul}
+use native.Mathlib.Decide.{decLe}
 use native.Mathlib.Omega.{arith}
 use Rattle.root.specs.Root.{IsRoot, rootOf}
 use Rattle.root.proofs.Laws.{root-le, root-eq, root-is, root-div}
@@ -17,7 +18,7 @@ use Rattle.line.proofs.Lines.{square-is, odd-below, weighted-le}
 use Rattle.line.proofs.Bounds.{sound-scale}
 use Rattle.fixed.specs.declared.Steps.{Steps}
 use Rattle.fixed.specs.declared.RowLine.{RowLine}
-use Rattle.fixed.specs.Steps.{Within, Steady, reachOf, placeOf, Follows}
+use Rattle.fixed.specs.Steps.{Within, Steady, reachOf, placeOf, Reaches, Follows, Told, Inside, Sure}
 
 square-order : (x y : ℕ) → x * x ≤ y * y → x ≤ y
 square-order x y h = root-le 1 (y * y) x y (omega arith) (omega arith)
@@ -142,7 +143,7 @@ module _ (s : Steps) (v : HeldVector) (w h j : ℕ) (l : Steady s v) (box : Box 
   pub step-fits : s .across < 70368744177664
   step-fits = omega (arith, within-le (norm (vectorIn v)) 1 (32 * v .x) (s .across) (sound-scale (L.Straight v) w h (l .bounded)) (l .across), l .bounded .sum)
 
-  follows : (r : RowLine) → ((i : ℕ) → i < w → (r .first + r .forth * i < 18446744073709551616) × (r .back * i ≤ r .first + r .forth * i))
+  follows : (r : RowLine) → ((i : ℕ) → i < w → Reaches r i)
       → ((i : ℕ) → i < w → placeOf r i ≡ stepped s v w h i j) → Follows r v w h j
   follows r fits is = record {
     box = box;
@@ -156,7 +157,7 @@ module _ (s : Steps) (v : HeldVector) (w h j : ℕ) (l : Steady s v) (box : Box 
   forth-place e i = rw e (forth-is (s .across) (s .down * oddOf (v .up) h j) i)
 
   pub goes-forth : v .left ≡ false → Follows (record { first = stepped s v w h 0 j; forth = 2 * s .across; back = 0 }) v w h j
-  goes-forth e = follows _ (λ i p. (omega (arith, forth-place e i, row-fits i p), omega arith)) (λ i p. forth-place e i)
+  goes-forth e = follows _ (λ i p. record { sum = omega (arith, forth-place e i, row-fits i p); room = omega arith }) (λ i p. forth-place e i)
 
   back-fits : v .left ≡ true → (i : ℕ) → i < w → 2 * s .across * i ≤ stepped s v w h 0 j + 0 * i
   back-fits e i p = rw e (omega (arith, back-room (s .across) (s .down * oddOf (v .up) h j) w i p))
@@ -164,5 +165,76 @@ module _ (s : Steps) (v : HeldVector) (w h j : ℕ) (l : Steady s v) (box : Box 
   pub goes-back : v .left ≡ true → Follows (record { first = stepped s v w h 0 j; forth = 0; back = 2 * s .across }) v w h j
   goes-back e =
       follows _
-      (λ i p. (omega (arith, row-fits 0 (box .some-width)), back-fits e i p))
+      (λ i p. record { sum = omega (arith, row-fits 0 (box .some-width)); room = back-fits e i p })
       (λ i p. rw e (back-is (s .across) (s .down * oddOf (v .up) h j) w i p))
+
+-- ---- many places at once
+-- k pixels on
+place-on : (r : RowLine) (i k : ℕ) → Reaches r i → Reaches r (i + k) → placeOf r (i + k) + r .back * k ≡ placeOf r i + r .forth * k
+place-on r i k p q = omega (arith, p .room, q .room)
+
+pub place-step : (r : RowLine) (i k s b : ℕ) → Reaches r i → Reaches r (i + k) → (s + r .back) % 18446744073709551616 ≡ r .forth → b ≤ placeOf r i
+    → b ≤ placeOf r (i + k) → (placeOf r i - b + s * k) % 18446744073709551616 ≡ placeOf r (i + k) - b
+place-step r i k s b p q e h l =
+    let c : ℕ = (s + r .back) / 18446744073709551616 in
+    let f : s + r .back ≡ c * 18446744073709551616 + r .forth = omega arith in
+    let m : (s + r .back) * k ≡ (c * 18446744073709551616 + r .forth) * k = ap (λ (z : ℕ). z * k) f in
+    let n : placeOf r i - b + s * k ≡ placeOf r (i + k) - b + c * k * 18446744073709551616 = omega (arith, place-on r i k p q) in
+    let small : placeOf r (i + k) - b < 18446744073709551616 = omega (arith, q .sum) in
+    omega arith
+
+-- a number on a straight way from a to d, k steps of m on: each step adds f and takes b
+between : (a c d f b k m x y : ℕ) → k ≤ m → c + b * k ≡ a + f * k → d + b * m ≡ a + f * m → x ≤ a → x ≤ d → a < y → d < y → (x ≤ c) × (c < y)
+between a c d f b k m x y l e g xa xd ay dy = go (decLe b f)
+  where
+    go : Dec (b ≤ f) → (x ≤ c) × (c < y)
+    go (yes h) =
+        let z : ℕ = f - b in
+        let u : f ≡ b + z = omega arith in
+        let v : z * k ≤ z * m = mul-le-mul-left z l in
+        omega (arith, ap (λ (n : ℕ). n * k) u, ap (λ (n : ℕ). n * m) u)
+    go (no h) =
+        let z : ℕ = b - f in
+        let u : b ≡ f + z = omega arith in
+        let v : z * k ≤ z * m = mul-le-mul-left z l in
+        omega (arith, ap (λ (n : ℕ). n * k) u, ap (λ (n : ℕ). n * m) u)
+
+pub inside-between : (r : RowLine) (i k m base size : ℕ) → k ≤ m → Reaches r i → Reaches r (i + k) → Reaches r (i + m) → Inside base size (placeOf r i)
+    → Inside base size (placeOf r (i + m)) → Inside base size (placeOf r (i + k))
+inside-between r i k m base size l p q t x y =
+    let b = between (placeOf r i) (placeOf r (i + k)) (placeOf r (i + m)) (r .forth) (r .back) k m (base * 33554432) ((base + size) * 33554432) l (place-on r i k p q) (place-on r i m p t)
+    (omega (arith, x .low)) (omega (arith, y .low)) (omega (arith, x .high)) (omega (arith, y .high)) in
+    record { low = omega arith; high = omega arith }
+
+-- the low digits of a place come from the low halves
+pub low-digits : (e s k : ℕ) → (e + s * k) % 18446744073709551616 % 33554432 ≡ (e % 4294967296 + s % 4294967296 * k) % 33554432
+low-digits e s k =
+    let a : ℕ = s / 4294967296 in
+    let f : s * k ≡ (a * 4294967296 + s % 4294967296) * k = ap (λ (z : ℕ). z * k) (sym (div-add-mod' s 4294967296)) in
+    omega arith
+
+-- ---- places that are told by their digits, one after the other
+module _ (low step : ℕ) where
+  pub told-more : (k l u : ℕ) → l ≡ (low + step * k) % 4294967296 → (u ≡ 0 → Told l) → (count : ℕ) → (count ≡ 0 → (m : ℕ) → m < k → Told (low + step * m))
+      → count + u ≡ 0 → (m : ℕ) → m < k + 1 → Told (low + step * m)
+  told-more k l u e t count h z m b = go (decLe k m)
+    where
+      go : Dec (k ≤ m) → Told (low + step * m)
+      go (yes f) =
+          let s : m ≡ k = omega arith in
+          let g : l % 33554432 < 33546240 = t (omega arith) in
+          rw s (omega arith)
+      go (no f) = h (omega arith) m (omega arith)
+
+-- n places from pixel i on, where the first and the last are inside
+pub all-sure : (r : RowLine) (i n base size e s l m : ℕ) → 0 < n → ((k : ℕ) → k < n → Reaches r (i + k)) → e ≡ placeOf r i → Inside base size (placeOf r i)
+    → Inside base size (placeOf r (i + (n - 1)))
+    → ((k b : ℕ) → Reaches r i → Reaches r (i + k) → b ≤ placeOf r i → b ≤ placeOf r (i + k) → (placeOf r i - b + s * k) % 18446744073709551616 ≡ placeOf r (i + k) - b)
+    → l ≡ e % 4294967296 → m ≡ s % 4294967296 → ((k : ℕ) → k < n → Told (l + m * k)) → (k : ℕ) → k < n → Sure base size (placeOf r (i + k))
+all-sure r i n base size e s l m some fits ee first last steps el em told k h =
+    let p : Reaches r i = rw add-zero at (fits 0 some) in
+    let q : Reaches r (i + k) = fits k h in
+    let t : Told (e % 4294967296 + s % 4294967296 * k) = rw (el, em) at (told k h) in
+    let f : (e + s * k) % 18446744073709551616 ≡ placeOf r (i + k) = rw ee (simp sub-zero at (steps k 0 p q (omega arith) (omega arith))) in
+    let d : placeOf r (i + k) % 33554432 ≡ (e % 4294967296 + s % 4294967296 * k) % 33554432 = ap (λ (z : ℕ). z % 33554432) (sym f) ∙ low-digits e s k in
+    record { told = rw d t; inside = inside-between r i k (n - 1) base size (omega arith) p q (fits (n - 1) (omega arith)) first last }

@@ -1,6 +1,6 @@
 -- Numbers in fixed point, with 25 binary digits after the point, and the steps along a held vector.
 -- Assumes nothing.
-use Prim.Native.Nat.{ℕ, _+_, _*_, _-_, _≤_, _<_}
+use Prim.Native.Nat.{ℕ, _+_, _*_, _-_, _/_, _%_, _≤_, _<_}
 use Rattle.line.specs.Box.{Box}
 use Rattle.line.specs.Location.{squared, norm}
 use Rattle.line.specs.Held.{oddOf, vectorIn, Bounded}
@@ -27,10 +27,28 @@ reachOf v w h i j = 32 * (oddOf (v .left) w i * v .x + oddOf (v .up) h j * v .y)
 abbrev pub placeOf : RowLine → ℕ → ℕ
 placeOf r i = r .first + r .forth * i - r .back * i
 
+-- .. and it fits
+pub record Reaches (r : RowLine) (i : ℕ) : Type 0 where
+  pub sum : r .first + r .forth * i < 18446744073709551616
+  pub room : r .back * i ≤ r .first + r .forth * i
+
 -- the places are those of row j of a box along v
 pub record Follows (r : RowLine) (v : HeldVector) (w h j : ℕ) : Type 0 where
   pub box : Box w h
   pub bounded : Bounded v
   pub row : j < h
-  pub fits : (i : ℕ) → i < w → (r .first + r .forth * i < 18446744073709551616) × (r .back * i ≤ r .first + r .forth * i)
+  pub fits : (i : ℕ) → i < w → Reaches r i
   pub place : (i : ℕ) → i < w → Within 8190 (norm (vectorIn v)) (reachOf v w h i j) (placeOf r i)
+
+-- the digits after the point tell the whole part: more than 8,190 is missing to the next whole number
+abbrev pub Told : ℕ → Type 0
+Told e = e % 33554432 < 33546240
+
+-- the whole part is one of `size` numbers from `base` on
+pub record Inside (base size e : ℕ) : Type 0 where
+  pub low : base ≤ e / 33554432
+  pub high : e / 33554432 < base + size
+
+pub record Sure (base size e : ℕ) : Type 0 where
+  pub told : Told e
+  pub inside : Inside base size e

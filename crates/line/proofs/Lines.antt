@@ -1,17 +1,15 @@
 -- The bridge from the gradient line's formulas over the integers to the counts that the code computes.
 -- Assumes nothing.
-use mathlib.Core.Path.{_≡_, refl, sym, ap, _∙_}
+use mathlib.Core.Path.{_≡_, sym, ap, _∙_}
 use mathlib.Core.Bool.{Bool, true, false}
 use Prim.Native.Nat.{ℕ, zero, suc, _+_, _*_, _≤_, _<_}
 use native.Mathlib.Nat.{mul-le-mul, mul-le-mul-right}
 use native.Mathlib.Omega.{arith}
-use lib.IntN.{ℤ, pos, _+ℤ_, _-ℤ_, _*ℤ_, negℤ, natAbs, subℕ, +ℤ-assoc, +ℤ-comm, *ℤ-zero}
+use lib.IntN.{ℤ, pos, _+ℤ_, _-ℤ_, _*ℤ_, negℤ, natAbs, subℕ, +ℤ-assoc, +ℤ-comm}
 use Rattle.numbers.proofs.Integers.{diff-eq, diff-of, diff-pos, diff-neg, diff-add, diff-mul, mul-neg}
-use Rattle.root.specs.Root.{rootOf}
 use Rattle.line.specs.Vector.{vector}
-use Rattle.line.specs.Location.{locationBy, norm, along, squared, lineRule}
-use Rattle.line.specs.declared.HeldVector.{HeldVector}
-use Rattle.line.specs.Held.{signed, oddOf, vectorIn}
+use Rattle.line.specs.Location.{norm, along, squared}
+use Rattle.line.specs.Held.{signed, oddOf}
 use Rattle.line.proofs.Vectors.{abs-signed}
 
 module _ (s t : Bool) (a b : ℕ) where
@@ -78,39 +76,3 @@ odd-below false w i h = omega arith
 
 pub weighted-le : (m a b x y : ℕ) → a ≤ m → b ≤ m → a * x + b * y ≤ m * (x + y)
 weighted-le m a b x y p q = omega (arith, mul-le-mul-right x p, mul-le-mul-right y q)
-
--- ---- where the vector has no height, locations are those of the first row, and where it has no width, those of the first column
-signed-none : (s : Bool) → signed s 0 ≡ pos 0
-signed-none true = refl
-signed-none false = refl
-
-no-part : (a b : ℕ) (s : Bool) → (pos a -ℤ pos b) *ℤ signed s 0 ≡ pos 0
-no-part a b s = ap (λ (z : ℤ). (pos a -ℤ pos b) *ℤ z) (signed-none s) ∙ *ℤ-zero (pos a -ℤ pos b)
-
-module _ (w h i j : ℕ) (s t : Bool) (n : ℕ) where
-  along-level : along w h (vector (signed s n) (signed t 0)) i j ≡ along w h (vector (signed s n) (signed t 0)) i 0
-  unfolding along
-  along-level =
-      let x : ℤ = (pos (2 * i + 1) -ℤ pos w) *ℤ signed s n in
-      ap (λ (z : ℤ). x +ℤ z +ℤ pos w *ℤ pos (natAbs (signed s n)) +ℤ pos h *ℤ pos (natAbs (signed t 0)))
-      (no-part (2 * j + 1) h t ∙ sym (no-part (2 * 0 + 1) h t))
-
-  along-upright : along w h (vector (signed s 0) (signed t n)) i j ≡ along w h (vector (signed s 0) (signed t n)) 0 j
-  unfolding along
-  along-upright =
-      let y : ℤ = (pos (2 * j + 1) -ℤ pos h) *ℤ signed t n in
-      ap (λ (z : ℤ). z +ℤ y +ℤ pos w *ℤ pos (natAbs (signed s 0)) +ℤ pos h *ℤ pos (natAbs (signed t n)))
-      (no-part (2 * i + 1) w s ∙ sym (no-part (2 * 0 + 1) w s))
-
-module _ (v : HeldVector) (w h i j : ℕ) where
-  pub level-location : v .y ≡ 0 → locationBy (lineRule w h (vectorIn v)) i j ≡ locationBy (lineRule w h (vectorIn v)) i 0
-  unfolding locationBy
-  level-location e =
-      rw e (ap (λ (z : ℤ). rootOf (norm (vector (signed (v .left) (v .x)) (signed (v .up) 0))) (squared (natAbs (pos 32 *ℤ z))))
-      (along-level w h i j (v .left) (v .up) (v .x)))
-
-  pub upright-location : v .x ≡ 0 → locationBy (lineRule w h (vectorIn v)) i j ≡ locationBy (lineRule w h (vectorIn v)) 0 j
-  unfolding locationBy
-  upright-location e =
-      rw e (ap (λ (z : ℤ). rootOf (norm (vector (signed (v .left) 0) (signed (v .up) (v .y)))) (squared (natAbs (pos 32 *ℤ z))))
-      (along-upright w h i j (v .left) (v .up) (v .y)))

@@ -7,7 +7,7 @@ use native.Mathlib.Nat.{add-zero, add-assoc}
 use native.Mathlib.Numerals.{add-one}
 use native.Mathlib.Omega.{arith}
 use lib.ListN.{length, getD, take, drop, replicate, set, length-append, length-drop, length-replicate, take-append-drop, replicate-append-replicate, List·getD-append}
-use lib.Seq.{length-take-le, take-at, take-suc, drop-append-add, drop-drop, drop-at, drop-length, getD-take, getD-drop, sets-eq}
+use lib.Seq.{length-take-le, take-add, take-append-le, drop-append-le, take-at, take-suc, drop-append-add, drop-drop, drop-at, drop-length, getD-take, getD-drop, sets-eq}
 use Rattle.picture.specs.Picture.{patched, padded, buffer}
 
 module _ {A : Type 0} where
@@ -108,6 +108,31 @@ module _ {A : Type 0} where
       let n : length (replicate (i - at) v) ≡ i - at = length-replicate (i - at) v in
       let e : i + 1 - at ≡ i - at + 1 = omega arith in
       rw (e, ← replicate-append-replicate {A = A} (i - at) 1 v) (set-step d (replicate (i - at) v) b at i v (omega arith) k p)
+
+  -- what stands before the patch
+  front : (p q : List A) (from n : ℕ) → from + n ≤ length p → take n (drop from (p ++ q)) ≡ take n (drop from p)
+  front p q from n h = rw (drop-append-le from p q (omega arith)) (take-append-le n (drop from p) q (rw length-drop (omega arith)))
+
+  pub patch-kept : (d s : List A) (at from n : ℕ) → from + n ≤ at → at ≤ length d → take n (drop from (patched d at s)) ≡ take n (drop from d)
+  patch-kept d s at from n h l =
+      let k : length (take at d) ≡ at = length-take-le at d l in
+      ap (λ (x : List A). take n (drop from x)) (append-assoc (take at d) s (drop (at + length s) d))
+      ∙ front (take at d) (s ++ drop (at + length s) d) from n (omega arith)
+      ∙ sym (front (take at d) (drop at d) from n (omega arith))
+      ∙ ap (λ (x : List A). take n (drop from x)) (take-append-drop at d)
+
+  -- a turn of a loop that copies what stands from `from` on, k at a time
+  pub copies-step : (d b b′ : List A) (from to i k : ℕ) → from + (i + k) ≤ to → to + (i + k) ≤ length d → b ≡ patched d to (take i (drop from d))
+      → b′ ≡ patched b (to + i) (take k (drop (from + i) b)) → b′ ≡ patched d to (take (i + k) (drop from d))
+  copies-step d b b′ from to i k h l p q =
+      let s : List A = take i (drop from d) in
+      let t : List A = take k (drop i (drop from d)) in
+      let n : length (drop from d) ≡ length d - from = length-drop from d in
+      let ns : length s ≡ i = length-take-le i (drop from d) (omega arith) in
+      let nt : length t ≡ k = length-take-le k (drop i (drop from d)) (rw length-drop (omega arith)) in
+      let e : take k (drop (from + i) b) ≡ t =
+      ap (λ (x : List A). take k (drop (from + i) x)) p ∙ patch-kept d s to (from + i) k (omega arith) (omega arith) ∙ ap (take k) (sym (drop-drop i from d)) in
+      rw (take-add i k (drop from d)) (patch-step d s t b b′ to (to + i) (omega arith) (omega arith) p (q ∙ ap (patched b (to + i)) e))
 
   -- a turn of a loop that copies what stands from `from` on
   pub copy-step : (d b : List A) (from to i : ℕ) (z : A) → from + i < to → to + i < length d → b ≡ patched d to (take i (drop from d))

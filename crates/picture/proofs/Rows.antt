@@ -3,11 +3,11 @@
 use mathlib.Core.Path.{_≡_, refl, sym, ap, _∙_}
 use mathlib.Core.List.{List, [], _∷_, _++_, append-assoc, append-nil}
 use Prim.Native.Nat.{ℕ, zero, suc, _+_, _-_, _*_, _≤_, _<_}
-use native.Mathlib.Nat.{add-zero, zero-add, add-suc, suc-add, sub-self, sub-zero, mul-zero, mul-suc, mul-le-mul-left, le-mul-of-pos-right, le-of-suc-le-suc}
+use native.Mathlib.Nat.{add-zero, zero-add, add-suc, suc-add, sub-self, sub-zero, mul-zero, mul-suc, mul-le-mul-left, le-of-suc-le-suc}
 use native.Mathlib.Omega.{arith}
 use lib.ListN.{length, getD, replicate, length-append, length-replicate, List·getD-append}
 use lib.Seq.{getD-append-add}
-use Rattle.picture.specs.Picture.{joined, copies, row, strip, picture, padded, buffer}
+use Rattle.picture.specs.Picture.{joined, copies, row, part, strip, picture, padded, buffer}
 
 -- ---- lists joined
 module _ {A : Type 0} (f : ℕ → List A) where
@@ -30,12 +30,12 @@ module _ {A : Type 0} (f : ℕ → List A) where
   joined-more a n = rw (joined-add a n 1, joined-one (a + n))
 
   -- where the lists are equal, what is joined is
-  pub joined-same : (g : ℕ → List A) (a n : ℕ) → ((k : ℕ) → k < n → f (a + k) ≡ g (a + k)) → joined f a n ≡ joined g a n
+  pub joined-same : (g : ℕ → List A) (a b n : ℕ) → ((k : ℕ) → k < n → f (a + k) ≡ g (b + k)) → joined f a n ≡ joined g b n
   unfolding joined
-  joined-same g a zero h = refl
-  joined-same g a (suc n) h =
-      let here : f a ≡ g a = rw add-zero at (h 0 (omega arith)) in
-      rw (here, joined-same g (suc a) n (λ k l. rw (suc-add a k, ← add-suc a k) (h (suc k) (omega arith))))
+  joined-same g a b zero h = refl
+  joined-same g a b (suc n) h =
+      let here : f a ≡ g b = rw (add-zero, add-zero) at (h 0 (omega arith)) in
+      rw (here, joined-same g (suc a) (suc b) n (λ k l. rw (suc-add a k, ← add-suc a k, suc-add b k, ← add-suc b k) (h (suc k) (omega arith))))
 
   module _ (k : ℕ) (each : (q : ℕ) → length (f q) ≡ k) where
     -- n lists of k elements
@@ -57,26 +57,11 @@ module _ {A : Type 0} (f : ℕ → List A) where
 
 -- ---- copies of one list
 module _ {A : Type 0} (s : List A) where
-  copies-from : (a b n : ℕ) → joined (λ (k : ℕ). s) a n ≡ joined (λ (k : ℕ). s) b n
-  unfolding joined
-  copies-from a b zero = refl
-  copies-from a b (suc n) = ap (λ (t : List A). s ++ t) (copies-from (suc a) (suc b) n)
-
   pub copies-length : (n : ℕ) → length (copies n s) ≡ length s * n
   copies-length n = joined-length (λ (k : ℕ). s) (length s) (λ (k : ℕ). refl) 0 n
 
-  pub copies-one : copies 1 s ≡ s
-  copies-one = joined-one (λ (k : ℕ). s) 0
-
   pub copies-more : (n : ℕ) → copies (n + 1) s ≡ copies n s ++ s
   copies-more n = joined-more (λ (k : ℕ). s) 0 n
-
-  pub copies-first : (n : ℕ) → 0 < n → copies n s ≡ s ++ copies (n - 1) s
-  unfolding joined
-  copies-first zero h = absurd (omega arith)
-  copies-first (suc n) h =
-      let e : suc n - 1 ≡ n = omega arith in
-      rw e (ap (λ (t : List A). s ++ t) (copies-from 1 0 n))
 
 -- ---- rows and strips
 module _ {A : Type 0} (px : ℕ → ℕ → List A) where
@@ -88,6 +73,30 @@ module _ {A : Type 0} (px : ℕ → ℕ → List A) where
   pub row-more : (w j : ℕ) → row px (w + 1) j ≡ row px w j ++ px w j
   unfolding row
   row-more w j = rw zero-add at (joined-more (λ (i : ℕ). px i j) 0 w)
+
+  -- a row is the part of all its pixels
+  pub row-part : (w j : ℕ) → row px w j ≡ part px 0 w j
+  unfolding row part
+  row-part w j = refl
+
+  pub part-none : (i j : ℕ) → part px i 0 j ≡ []
+  unfolding part
+  part-none i j = joined-none (λ (k : ℕ). px k j) i
+
+  -- one pixel more
+  pub part-more : (i n j : ℕ) → part px i (n + 1) j ≡ part px i n j ++ px (i + n) j
+  unfolding part
+  part-more i n j = joined-more (λ (k : ℕ). px k j) i n
+
+  -- two parts in order are one
+  pub part-add : (i m n j : ℕ) → part px i (m + n) j ≡ part px i m j ++ part px (i + m) n j
+  unfolding part
+  part-add i m n j = joined-add (λ (k : ℕ). px k j) i m n
+
+  -- two parts of equal pixels
+  pub parts-alike : (i k n j m : ℕ) → ((p : ℕ) → p < n → px (i + p) j ≡ px (k + p) m) → part px i n j ≡ part px k n m
+  unfolding part
+  parts-alike i k n j m h = joined-same (λ (p : ℕ). px p j) (λ (p : ℕ). px p m) i k n h
 
   pub strip-none : (w a : ℕ) → strip px w a a ≡ []
   unfolding strip
@@ -117,23 +126,27 @@ module _ {A : Type 0} (px : ℕ → ℕ → List A) where
   -- two rows of equal pixels
   pub rows-alike : (w j k : ℕ) → ((i : ℕ) → i < w → px i j ≡ px i k) → row px w j ≡ row px w k
   unfolding row
-  rows-alike w j k h = joined-same (λ (i : ℕ). px i j) (λ (i : ℕ). px i k) 0 w (λ i l. rw zero-add (h i l))
+  rows-alike w j k h = joined-same (λ (i : ℕ). px i j) (λ (i : ℕ). px i k) 0 0 w (λ i l. rw zero-add (h i l))
 
   -- a row of one pixel, over and over
   pub row-copies : (w j : ℕ) (s : List A) → ((i : ℕ) → i < w → px i j ≡ s) → row px w j ≡ copies w s
   unfolding row
-  row-copies w j s h = joined-same (λ (i : ℕ). px i j) (λ (i : ℕ). s) 0 w (λ i l. rw zero-add (h i l))
+  row-copies w j s h = joined-same (λ (i : ℕ). px i j) (λ (i : ℕ). s) 0 0 w (λ i l. rw zero-add (h i l))
 
   -- a strip of one row, over and over
   pub strip-copies : (w a b : ℕ) (s : List A) → ((j : ℕ) → a ≤ j → j < b → row px w j ≡ s) → strip px w a b ≡ copies (b - a) s
   unfolding strip
   strip-copies w a b s h =
-      joined-same (row px w) (λ (k : ℕ). s) a (b - a) (λ k l. h (a + k) (omega arith) (omega arith)) ∙ copies-from s a 0 (b - a)
+      joined-same (row px w) (λ (k : ℕ). s) a 0 (b - a) (λ k l. h (a + k) (omega arith) (omega arith))
 
   module _ (four : (i j : ℕ) → length (px i j) ≡ 4) where
     pub row-length : (w j : ℕ) → length (row px w j) ≡ 4 * w
     unfolding row
     row-length w j = joined-length (λ (i : ℕ). px i j) 4 (λ (i : ℕ). four i j) 0 w
+
+    pub part-length : (i n j : ℕ) → length (part px i n j) ≡ 4 * n
+    unfolding part
+    part-length i n j = joined-length (λ (k : ℕ). px k j) 4 (λ (k : ℕ). four k j) i n
 
     pub strip-length : (w a b : ℕ) → length (strip px w a b) ≡ 4 * w * (b - a)
     unfolding strip
@@ -193,9 +206,3 @@ pub times-room : (n a b j : ℕ) → a ≤ j → j < b → n * (j - a) + n ≤ n
 times-room n a b j h k =
     let m : n * (j + 1 - a) ≤ n * (b - a) = mul-le-mul-left n (omega arith) in
     omega (arith, times-more n a j h)
-
--- copy j of h stands after the first, and ends before the end
-pub times-within : (n h j : ℕ) → 0 < j → j < h → (n ≤ n * j) × (n * j + n ≤ n * h)
-times-within n h j a b =
-    let m : n * suc j ≤ n * h = mul-le-mul-left n b in
-    (le-mul-of-pos-right n a, rw mul-suc at m)

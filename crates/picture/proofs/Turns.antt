@@ -1,15 +1,13 @@
--- Loops that draw, turn by turn: what stands in a buffer b that was d, and in b′ after one pixel or one row more, which is written at o; and
--- rows that are alike.
+-- Loops that draw, turn by turn: what stands in a buffer b that was d, and in b′ after one pixel or one row more, which is written at o.
 -- Assumes nothing.
-use mathlib.Core.Path.{_≡_, sym, ap, ap₂, _∙_}
+use mathlib.Core.Path.{_≡_, sym, ap, _∙_}
 use mathlib.Core.List.{List}
 use Prim.Native.Nat.{ℕ, _+_, _-_, _*_, _≤_, _<_}
-use native.Mathlib.Nat.{le-mul-of-pos-right}
 use native.Mathlib.Omega.{arith}
 use lib.ListN.{length, take, drop}
-use Rattle.picture.specs.Picture.{copies, row, strip, patched}
-use Rattle.picture.proofs.Rows.{copies-length, copies-more, copies-first, row-more, strip-more, strip-split, strip-copies, rows-alike, row-length}
-use Rattle.picture.proofs.Patches.{patch-step, patch-part, patch-first, patch-here, patch-over}
+use Rattle.picture.specs.Picture.{row, part, strip, patched}
+use Rattle.picture.proofs.Rows.{row-more, part-more, part-add, part-length, strip-more, strip-split, rows-alike, row-length}
+use Rattle.picture.proofs.Patches.{patch-step, patch-part}
 
 module _ {A : Type 0} (px : ℕ → ℕ → List A) (four : (i j : ℕ) → length (px i j) ≡ 4) (d b b′ : List A) (at : ℕ) where
   -- one pixel more of row j
@@ -19,6 +17,20 @@ module _ {A : Type 0} (px : ℕ → ℕ → List A) (four : (i j : ℕ) → leng
       rw (row-more px w j)
       (patch-step d (row px w j) (px w j) b b′ at o (rw (row-length px four w j) e) (rw (four w j) h) p q)
 
+  -- one pixel more of a part of row j
+  pub part-step : (o i n j : ℕ) → o ≡ at + 4 * n → o + 4 ≤ length d → b ≡ patched d at (part px i n j) → b′ ≡ patched b o (px (i + n) j)
+      → b′ ≡ patched d at (part px i (n + 1) j)
+  part-step o i n j e h p q =
+      rw (part-more px i n j)
+      (patch-step d (part px i n j) (px (i + n) j) b b′ at o (rw (part-length px four i n j) e) (rw (four (i + n) j) h) p q)
+
+  -- the next part of row j
+  pub parts-step : (o i m n j : ℕ) → o ≡ at + 4 * m → o + 4 * n ≤ length d → b ≡ patched d at (part px i m j) → b′ ≡ patched b o (part px (i + m) n j)
+      → b′ ≡ patched d at (part px i (m + n) j)
+  parts-step o i m n j e h p q =
+      rw (part-add px i m n j)
+      (patch-step d (part px i m j) (part px (i + m) n j) b b′ at o (rw (part-length px four i m j) e) (rw (part-length px four (i + m) n j) h) p q)
+
   -- one row more
   pub row-step : (o w a j : ℕ) → a ≤ j → o ≡ at + length (strip px w a j) → o + 4 * w ≤ length d → b ≡ patched d at (strip px w a j)
       → b′ ≡ patched b o (row px w j) → b′ ≡ patched d at (strip px w a (j + 1))
@@ -26,38 +38,17 @@ module _ {A : Type 0} (px : ℕ → ℕ → List A) (four : (i j : ℕ) → leng
       rw (strip-more px w a j l)
       (patch-step d (strip px w a j) (row px w j) b b′ at o e (rw (row-length px four w j) h) p q)
 
-  -- .. copied from row k, whose pixels are the same
+  -- row k of a strip that was written
+  pub row-of-strip : (from w a k j : ℕ) → a ≤ k → k < j → from ≡ at + length (strip px w a k) → at ≤ length d → b ≡ patched d at (strip px w a j)
+      → take (4 * w) (drop from b) ≡ row px w k
+  row-of-strip from w a k j l m f h p =
+      rw f
+      (ap (λ (x : List A). take (4 * w) (drop (at + length (strip px w a k)) x)) (p ∙ ap (patched d at) (strip-split px w a k j l m))
+      ∙ patch-part d (strip px w a k) (row px w k) (strip px w (k + 1) j) at (4 * w) (row-length px four w k) h)
+
+  -- one row more, copied from row k, whose pixels are the same
   pub copied-step : (o from w a k j : ℕ) → a ≤ k → k < j → ((i : ℕ) → i < w → px i j ≡ px i k) → from ≡ at + length (strip px w a k)
       → o ≡ at + length (strip px w a j) → o + 4 * w ≤ length d → b ≡ patched d at (strip px w a j)
       → b′ ≡ patched b o (take (4 * w) (drop from b)) → b′ ≡ patched d at (strip px w a (j + 1))
   copied-step o from w a k j l m alike f e h p q =
-      let part : take (4 * w) (drop from b) ≡ row px w k =
-      rw f
-      (ap (λ (x : List A). take (4 * w) (drop (at + length (strip px w a k)) x)) (p ∙ ap (patched d at) (strip-split px w a k j l m))
-      ∙ patch-part d (strip px w a k) (row px w k) (strip px w (k + 1) j) at (4 * w) (row-length px four w k) (omega arith)) in
-      row-step o w a j (omega arith) e h p (q ∙ ap (patched b o) (part ∙ sym (rows-alike px w j k alike)))
-
-  -- rows a up to c, n in all, that are all like row a: it is drawn, and copied on
-  pub copied-strip : (w a c n : ℕ) → n ≡ c - a → 0 < n → ((i j : ℕ) → i < w → a ≤ j → j < c → px i j ≡ px i a) → at + 4 * w * n ≤ length d
-      → b ≡ patched d at (row px w a) → b′ ≡ patched b at (copies n (take (4 * w) (drop at b))) → b′ ≡ patched d at (strip px w a c)
-  copied-strip w a c n e l alike h p q =
-      let r : List A = row px w a in
-      let k : length r ≡ 4 * w = row-length px four w a in
-      let m : 4 * w ≤ 4 * w * n = le-mul-of-pos-right (4 * w) l in
-      let u : length (copies n r) ≡ 4 * w * n = copies-length r n ∙ ap (λ (x : ℕ). x * n) k in
-      let part : take (4 * w) (drop at b) ≡ r =
-      ap (λ (x : List A). take (4 * w) (drop at x)) p ∙ patch-here d r at (4 * w) k (omega arith) in
-      q
-      ∙ ap₂ (λ (x y : List A). patched x at (copies n y)) p part
-      ∙ patch-over d r (copies n r) at (omega arith) (omega arith)
-      ∙ ap (λ (x : ℕ). patched d at (copies x r)) e
-      ∙ ap (patched d at) (sym (strip-copies px w a c r (λ j s t. rows-alike px w j a (λ i v. alike i j v s t))))
-
--- one copy more of the n elements from `at` on
-pub copies-step : {A : Type 0} (d b b′ s : List A) (at o n j : ℕ) → length s ≡ n → 0 < j → o ≡ at + n * j → o + n ≤ length d
-    → b ≡ patched d at (copies j s) → b′ ≡ patched b o (take n (drop at b)) → b′ ≡ patched d at (copies (j + 1) s)
-copies-step {A} d b b′ s at o n j k l e h p q =
-    let part : take n (drop at b) ≡ s =
-    ap (λ (x : List A). take n (drop at x)) (p ∙ ap (patched d at) (copies-first s j l)) ∙ patch-first d s (copies (j - 1) s) at n k (omega arith) in
-    rw (copies-more s j)
-    (patch-step d (copies j s) s b b′ at o (rw (copies-length s j, k) e) (omega arith) p (q ∙ ap (patched b o) part))
+      row-step o w a j (omega arith) e h p (q ∙ ap (patched b o) (row-of-strip from w a k j l m f (omega arith) p ∙ sym (rows-alike px w j k alike)))

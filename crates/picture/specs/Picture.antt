@@ -19,6 +19,10 @@ copies n s = joined (λ (k : ℕ). s) 0 n
 unfoldable pub row : {A : Type 0} → (ℕ → ℕ → List A) → ℕ → ℕ → List A
 row px w j = joined (λ (i : ℕ). px i j) 0 w
 
+-- n pixels of row j, from pixel i on
+unfoldable pub part : {A : Type 0} → (ℕ → ℕ → List A) → ℕ → ℕ → ℕ → List A
+part px i n j = joined (λ (k : ℕ). px k j) i n
+
 -- rows a up to, not including, b
 unfoldable pub strip : {A : Type 0} → (ℕ → ℕ → List A) → ℕ → ℕ → ℕ → List A
 strip px w a b = joined (row px w) a (b - a)

@@ -1,9 +1,9 @@
 // Writes into a lent buffer of bytes, four to a pixel.
 ghost use mathlib.Core.Path.{_≡_};
 ghost use mathlib.Core.List.{_∷_, []};
-ghost use Prim.Native.Nat.{_+_, _-_, _*_, _≤_, _<_};
+ghost use Prim.Native.Nat.{_+_, _-_, _≤_, _<_};
 ghost use lib.ListN.{length, take, drop, replicate};
-ghost use Rattle.picture.specs.Picture.{copies, patched};
+ghost use Rattle.picture.specs.Picture.{patched};
 
 // Stores four bytes from `at` on.
 pub fn put(buf: &mut [u8], at: usize, r: u8, g: u8, b: u8, a: u8)
@@ -36,7 +36,7 @@ pub fn clear(buf: &mut [u8])
 }
 
 // Copies the n bytes that stand from `from` on to a later place.
-pub fn copy_row(buf: &mut [u8], from: usize, to: usize, n: usize)
+fn copy_bytes(buf: &mut [u8], from: usize, to: usize, n: usize)
     requires { ⌜ (from + n ≤ to) × (to + n ≤ length (now buf)) ⌝ }
     ensures { λ _. ⌜ now (buf .exit) ≡ patched (now (buf .entry)) to (take n (drop from (now (buf .entry)))) ⌝ }
 {
@@ -47,30 +47,24 @@ pub fn copy_row(buf: &mut [u8], from: usize, to: usize, n: usize)
     }
 }
 
-// Copies the n bytes that stand from `at` on behind themselves, so that they stand there h times.
-pub fn copy_rows(buf: &mut [u8], at: usize, n: usize, h: usize)
-    requires { ⌜ (0 < h) × (at + n * h ≤ length (now buf)) ⌝ }
-    ensures { λ _. ⌜ now (buf .exit) ≡ patched (now (buf .entry)) at (copies h (take n (drop at (now (buf .entry))))) ⌝ }
+// At most 2,048 of n.
+fn block(n: usize) -> usize
+    requires { ⌜ 0 < n ⌝ }
+    ensures { λ r. ⌜ (0 < r) × (r ≤ n) ⌝ }
 {
-    let mut j = 1;
-    let mut o = at + n;
-    while j < h {
-        copy_row(buf, at, o, n);
-        o += n;
-        j += 1;
-    }
+    if n < 2048 { n } else { 2048 }
 }
 
-// Stores the same four bytes w times from `at` on.
-pub fn fill_row(buf: &mut [u8], at: usize, w: usize, r: u8, g: u8, b: u8, a: u8)
-    requires { ⌜ at + 4 * w ≤ length (now buf) ⌝ }
-    ensures { λ _. ⌜ now (buf .exit) ≡ patched (now (buf .entry)) at (copies w (r ∷ g ∷ b ∷ a ∷ [])) ⌝ }
+// Copies the n bytes that stand from `from` on to a later place, block by block: a compiler tests the places of many rows that are copied in one loop
+// for an overlap once for all of them, and finds one.
+pub fn copy_row(buf: &mut [u8], from: usize, to: usize, n: usize)
+    requires { ⌜ (from + n ≤ to) × (to + n ≤ length (now buf)) ⌝ }
+    ensures { λ _. ⌜ now (buf .exit) ≡ patched (now (buf .entry)) to (take n (drop from (now (buf .entry)))) ⌝ }
 {
     let mut i = 0;
-    let mut o = at;
-    while i < w {
-        put(buf, o, r, g, b, a);
-        o += 4;
-        i += 1;
+    while i < n {
+        let k = block(n - i);
+        copy_bytes(buf, from + i, to + i, k);
+        i += k;
     }
 }

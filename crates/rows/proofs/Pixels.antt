@@ -1,6 +1,6 @@
--- The pixels that the code draws: a held location stands for itself, and rows and columns that are alike.
+-- The pixels that the code draws, and the rows.
 -- Assumes nothing.
-use mathlib.Core.Path.{_≡_, refl, sym, ap, _∙_}
+use mathlib.Core.Path.{_≡_, refl, ap, _∙_}
 use mathlib.Core.List.{List}
 use Prim.Native.Nat.{ℕ, _+_, _-_, _*_, _≤_, _<_}
 use native.Mathlib.Omega.{arith}
@@ -10,15 +10,12 @@ use Rattle.numbers.specs.Held.{offset, unheld}
 use Rattle.numbers.proofs.Integers.{at-pos}
 use Rattle.line.specs.Location.{locationBy}
 use Rattle.line.specs.Held.{ruleIn}
-use Rattle.line.specs.declared.HeldVector.{HeldVector}
 use Rattle.line.specs.declared.Line.{Line}
-use Rattle.line.specs.declared.Line.the-variants as L
-use Rattle.line.proofs.Lines.{level-location, upright-location}
 use Rattle.color.specs.declared.Rgba.{Rgba}
 use Rattle.color.specs.Byte.{bytes, colorAt}
 use Rattle.color.specs.Lent.{stopsOf}
-use Rattle.picture.specs.Picture.{row, copies, strip, patched}
-use Rattle.picture.proofs.Rows.{row-length, strip-more, strip-length, row-copies, times-room}
+use Rattle.picture.specs.Picture.{row, strip, patched}
+use Rattle.picture.proofs.Rows.{row-length, strip-more, strip-length, times-room}
 use Rattle.picture.proofs.Patches.{patch-step}
 use Rattle.rows.specs.Pixel.{lentPixel}
 
@@ -34,17 +31,6 @@ pixel-is ps vs l w h i j q p e f = ap bytes (f ∙ ap (colorAt (stopsOf ps vs)) 
 -- four bytes to a pixel
 pub four : (ps vs : List ℕ) (l : Line) (w h i j : ℕ) → length (lentPixel ps vs l w h i j) ≡ 4
 four ps vs l w h i j = refl
-
-module _ (ps vs : List ℕ) (v : HeldVector) (w h : ℕ) where
-  -- a vector with no height: all rows are alike
-  pub alike : v .y ≡ 0 → (i j k : ℕ) → lentPixel ps vs (L.Straight v) w h i j ≡ lentPixel ps vs (L.Straight v) w h i k
-  alike e i j k = ap (λ (q : ℕ). bytes (colorAt (stopsOf ps vs) (pos q))) (level-location v w h i j e ∙ sym (level-location v w h i k e))
-
-  -- a vector with no width: every row is its first pixel over and over
-  pub plain : v .x ≡ 0 → (j : ℕ) → row (lentPixel ps vs (L.Straight v) w h) w j ≡ copies w (lentPixel ps vs (L.Straight v) w h 0 j)
-  plain e j =
-      row-copies (lentPixel ps vs (L.Straight v) w h) w j (lentPixel ps vs (L.Straight v) w h 0 j)
-      (λ i k. ap (λ (q : ℕ). bytes (colorAt (stopsOf ps vs) (pos q))) (upright-location v w h i j e))
 
 -- a turn of a loop over rows from a on: row j is put behind the rows up to j
 pub rows-turn : (px : ℕ → ℕ → List ℕ) → ((i j : ℕ) → length (px i j) ≡ 4) → (w a b j o : ℕ) (d c c′ r : List ℕ) → a ≤ j → j < b → o ≡ 4 * w * (j - a)

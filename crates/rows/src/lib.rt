@@ -1,6 +1,5 @@
 // Draws the rows of a picture into a lent buffer, from a held line and placed stops that are lent as two slices of numbers.
 use color::Rgba;
-use line::HeldVector;
 use line::Line;
 ghost use mathlib.Core.Path.{_≡_};
 ghost use Prim.Native.Nat.{_+_, _*_, _≤_, _<_};
@@ -83,51 +82,6 @@ pub fn draw_each(
     let mut o = 0;
     while j < b {
         draw_row(positions, values, l, w, h, j, o, buf);
-        o += n;
-        j += 1;
-    }
-}
-
-// Draws the rows where they are all alike: the first, and copies of it.
-pub fn draw_alike(
-    positions: &[u32],
-    values: &[u32],
-    v: HeldVector,
-    w: usize,
-    h: usize,
-    a: usize,
-    b: usize,
-    buf: &mut [u8],
-)
-    requires { ⌜ Drawable (now positions) (now values) (Line.Straight v) w h × Strip w h a b (length (now buf)) × (v .y ≡ 0) ⌝ }
-    ensures { λ _. ⌜ now (buf .exit) ≡ patched (now (buf .entry)) 0 (strip (lentPixel (now (positions .entry)) (now (values .entry)) (Line.Straight v) w h) w a b) ⌝ }
-{
-    draw_row(positions, values, Line::Straight(v), w, h, a, 0, buf);
-    picture::copy_rows(buf, 0, 4 * w, b - a);
-}
-
-// Draws the rows where each is one pixel over and over.
-pub fn draw_plain(
-    positions: &[u32],
-    values: &[u32],
-    v: HeldVector,
-    w: usize,
-    h: usize,
-    a: usize,
-    b: usize,
-    buf: &mut [u8],
-)
-    requires { ⌜ Drawable (now positions) (now values) (Line.Straight v) w h × Strip w h a b (length (now buf)) × (v .x ≡ 0) ⌝ }
-    ensures { λ _. ⌜ now (buf .exit) ≡ patched (now (buf .entry)) 0 (strip (lentPixel (now (positions .entry)) (now (values .entry)) (Line.Straight v) w h) w a b) ⌝ }
-{
-    let n = 4 * w;
-    let mut j = a;
-    let mut o = 0;
-    let mut last: u32 = 0;
-    while j < b {
-        last = locate(Line::Straight(v), w, h, 0, j, last);
-        let p = color::color_at(positions, values, 33554432 + last);
-        picture::fill_row(buf, o, w, p.red, p.green, p.blue, p.alpha);
         o += n;
         j += 1;
     }

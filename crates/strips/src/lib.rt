@@ -22,9 +22,9 @@ pub fn draw_strip(
     match l {
         Line::Straight(v) => {
             if v.x == 0 {
-                rows::draw_plain(positions, values, v, w, h, a, b, buf);
+                axisrows::draw_upright(positions, values, v, w, h, a, b, buf);
             } else if v.y == 0 {
-                rows::draw_alike(positions, values, v, w, h, a, b, buf);
+                axisrows::draw_level(positions, values, v, w, h, a, b, buf);
             } else {
                 linerows::draw_straight(positions, values, v, w, h, a, b, buf);
             }

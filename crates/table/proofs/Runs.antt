@@ -1,8 +1,9 @@
 -- Runs of locations that have the same stops around them.
 -- Assumes nothing.
-use mathlib.Core.Path.{_≡_, refl, sym, ap₂, _∙_}
+use mathlib.Core.Path.{_≡_, refl, sym, ap, ap₂, _∙_}
 use mathlib.Core.List.{List, [], _∷_}
-use Prim.Native.Nat.{ℕ, suc, _+_, _-_, _≤_, _<_, suc-le-suc}
+use Prim.Native.Nat.{ℕ, suc, _+_, _-_, _*_, _/_, _≤_, _<_, suc-le-suc}
+use native.Mathlib.Nat.{mul-le-mul-right, lt-of-mul-lt-mul-right, div-mul-le-self, lt-div-mul-add, le-trans}
 use native.Mathlib.Decide.{decLe}
 use native.Mathlib.Numerals.{add-one}
 use native.Mathlib.Omega.{arith}
@@ -13,7 +14,7 @@ use Rattle.color.specs.Stop.{placed, lastPlace}
 use Rattle.color.specs.Lent.{Lent, lastUpTo}
 use Rattle.color.proofs.Lent.{color-first, color-last, between, color-between}
 use Rattle.walk.specs.Channels.{mixOf}
-use Rattle.table.specs.Table.{packed, entryAt, walkedAt, Clear, Run}
+use Rattle.table.specs.Table.{packed, entryAt, walkedAt, Spans, Clear, Run}
 use Rattle.table.proofs.Packing.{entry-is}
 
 -- one position more, and an end that is no further
@@ -26,13 +27,27 @@ clear-more ps n a b b′ h e c i l m = either (decLe n i)
         rw q (e (rw q at m))
     either (no p) = omega (arith, c i (omega arith) m)
 
--- the entries from k up to the location below r
-pub run-is : (ps : List ℕ) (base k n r : ℕ) → n < 262144 → base + n ≤ offset → offset + base + k < r → r ≤ offset + base + n
-    → Clear (length ps) ps (offset + base + k) r → Run ps base k (r - (offset + base)) n
-run-is ps base k n r few range some within clear =
-    let e₁ : offset + (base + k) ≡ offset + base + k = omega arith in
-    let e₂ : offset + (base + (r - (offset + base))) ≡ r = omega arith in
-    record { some = omega arith; within = omega arith; few = few; range = range; clear = rw (e₁, e₂) clear }
+-- the entries from k up to the first at or above r
+pub run-is : (ps : List ℕ) (base s k n r b : ℕ) → 0 < s → n < 262144 → base + n * s ≤ offset → offset + base + k * s < r → r ≤ offset + base + n * s
+    → Clear (length ps) ps (offset + base + k * s) r → b ≡ (r - (offset + base) + (s - 1)) / s → Run ps base s k b n
+run-is ps base s k n r b pos few range some within clear e =
+    let d : ℕ = r - (offset + base) + (s - 1) in
+    let lo : d / s * s ≤ d = div-mul-le-self d s in
+    let hi : d < d / s * s + s = lt-div-mul-add pos in
+    let e₀ : b * s ≡ d / s * s = ap (λ (z : ℕ). z * s) e in
+    let l₁ : k < b = lt-of-mul-lt-mul-right s (omega arith) in
+    let c : b ≡ b - 1 + 1 = omega arith in
+    let m : b * s ≡ (b - 1 + 1) * s = ap (λ (z : ℕ). z * s) c in
+    let l₂ : b - 1 < n = lt-of-mul-lt-mul-right s (omega arith) in
+    let e₁ : offset + base + k * s ≡ offset + (base + k * s) = omega arith in
+    let e₂ : offset + (base + (b - 1) * s + 1) ≤ r = omega arith in
+    record { some = l₁; within = omega arith; few = few; range = range; clear = λ i h l. le-trans e₂ (clear i h (rw e₁ l)) }
+
+-- a run's first location
+pub run-low : (ps : List ℕ) (base s a b n : ℕ) → Run ps base s a b n → base + a * s ≤ offset
+run-low ps base s a b n r =
+    let m : a * s ≤ n * s = mul-le-mul-right s (omega (arith, r .some, r .within)) in
+    omega (arith, r .range)
 
 -- where no position lies between, the last one at or below is the same
 pub last-clear : (ps : List ℕ) (a b s : ℕ) → Clear (length ps) ps a b → a ≤ s → s < b → lastUpTo ps s ≡ lastUpTo ps a
@@ -41,41 +56,53 @@ last-clear [] a b s c l m = refl
 last-clear (p ∷ ps) a b s c l m =
     ap₂ placed (same-leb p a p s (λ h. omega arith) (λ h. omega (arith, c 0 (omega arith) h))) (last-clear ps a b s (λ i h. c (suc i) (suc-le-suc h)) l m)
 
-module _ (ps vs : List ℕ) (h : Lent ps vs) (base a b n : ℕ) (r : Run ps base a b n) where
-  same : (k : ℕ) → a ≤ k → k < b → lastUpTo ps (offset + (base + a)) ≡ lastUpTo ps (offset + (base + k))
-  same k l m = sym (last-clear ps (offset + (base + a)) (offset + (base + b)) (offset + (base + k)) (r .clear) (omega arith) (omega arith))
+module _ (ps vs : List ℕ) (h : Lent ps vs) (base s a b n : ℕ) (r : Run ps base s a b n) where
+  same : (k : ℕ) → a ≤ k → k < b → lastUpTo ps (offset + (base + a * s)) ≡ lastUpTo ps (offset + (base + k * s))
+  same k l m =
+      let m₁ : a * s ≤ k * s = mul-le-mul-right s l in
+      let m₂ : k * s ≤ (b - 1) * s = mul-le-mul-right s (omega arith) in
+      sym (last-clear ps (offset + (base + a * s)) (offset + (base + (b - 1) * s + 1)) (offset + (base + k * s)) (r .clear) (omega arith) (omega arith))
 
   -- before the first stop, and from the last one on, every entry is the first
-  pub flat-first : 0 ≡ lastUpTo ps (offset + (base + a)) → (k : ℕ) → a ≤ k → k < b → entryAt ps vs base a ≡ entryAt ps vs base k
+  pub flat-first : 0 ≡ lastUpTo ps (offset + (base + a * s)) → (k : ℕ) → a ≤ k → k < b → entryAt ps vs base s a ≡ entryAt ps vs base s k
   flat-first e k l m =
-      sym (entry-is ps vs h _ (base + a) (color-first ps vs h (offset + (base + a)) e))
-      ∙ entry-is ps vs h _ (base + k) (color-first ps vs h (offset + (base + k)) (e ∙ same k l m))
+      sym (entry-is ps vs h _ (base + a * s) (color-first ps vs h (offset + (base + a * s)) e))
+      ∙ entry-is ps vs h _ (base + k * s) (color-first ps vs h (offset + (base + k * s)) (e ∙ same k l m))
 
-  pub flat-last : (i : ℕ) → suc i ≡ lastUpTo ps (offset + (base + a)) → suc i ≡ length ps → (k : ℕ) → a ≤ k → k < b → entryAt ps vs base a ≡ entryAt ps vs base k
+  pub flat-last : (i : ℕ) → suc i ≡ lastUpTo ps (offset + (base + a * s)) → suc i ≡ length ps → (k : ℕ) → a ≤ k → k < b
+      → entryAt ps vs base s a ≡ entryAt ps vs base s k
   flat-last i e z k l m =
-      sym (entry-is ps vs h _ (base + a) (color-last ps vs h (offset + (base + a)) i e z))
-      ∙ entry-is ps vs h _ (base + k) (color-last ps vs h (offset + (base + k)) i (e ∙ same k l m) z)
+      sym (entry-is ps vs h _ (base + a * s) (color-last ps vs h (offset + (base + a * s)) i e z))
+      ∙ entry-is ps vs h _ (base + k * s) (color-last ps vs h (offset + (base + k * s)) i (e ∙ same k l m) z)
 
   -- between stop i and the next
-  module _ (i : ℕ) (e : i + 1 ≡ lastUpTo ps (offset + (base + a))) (z : i + 1 < length ps) where
-    at-stop : suc i ≡ lastUpTo ps (offset + (base + a))
+  module _ (i : ℕ) (e : i + 1 ≡ lastUpTo ps (offset + (base + a * s))) (z : i + 1 < length ps) where
+    at-stop : suc i ≡ lastUpTo ps (offset + (base + a * s))
     at-stop = sym (add-one i) ∙ e
 
     not-last : suc i ≡ length ps → ⊥
     not-last p = omega arith
 
-    pub edges : (getD ps i 0 ≤ offset + (base + a)) × (offset + (base + b) ≤ getD ps (i + 1) 0)
+    pub edges : (getD ps i 0 ≤ offset + (base + a * s)) × (offset + (base + (b - 1) * s + 1) ≤ getD ps (i + 1) 0)
     edges =
-        let w = between ps vs h (offset + (base + a)) i at-stop not-last in
+        let w = between ps vs h (offset + (base + a * s)) i at-stop not-last in
         (w .below, r .clear (i + 1) z (w .above))
+
+    pub spans : Spans (getD ps (i + 1) 0 - getD ps i 0) s (offset + (base + a * s) - getD ps i 0) a b
+    spans =
+        let c : b - 1 - a + a ≡ b - 1 = omega (arith, r .some) in
+        let m : (b - 1 - a + a) * s ≡ (b - 1) * s = ap (λ (k : ℕ). k * s) c in
+        record { few = omega (arith, r .within, r .few); within = omega (arith, edges) }
 
     -- every entry is a mix
     pub walked-entry : (k : ℕ) → a ≤ k → k < b
-        → walkedAt vs i (getD ps (i + 1) 0 - getD ps i 0) (offset + (base + a) - getD ps i 0) a k ≡ entryAt ps vs base k
+        → walkedAt vs i (getD ps (i + 1) 0 - getD ps i 0) s (offset + (base + a * s) - getD ps i 0) a k ≡ entryAt ps vs base s k
     unfolding walkedAt
     walked-entry k l m =
-        let s : ℕ = offset + (base + k) in
-        let x : ℕ = offset + (base + a) - getD ps i 0 + (k - a) in
-        let ex : x ≡ s - getD ps i 0 = omega (arith, edges) in
-        let ey : getD ps (i + 1) 0 - getD ps i 0 - x ≡ getD ps (i + 1) 0 - s = omega (arith, edges) in
-        ap₂ (λ (u v : ℕ). packed (mixOf vs i u v)) ex ey ∙ entry-is ps vs h _ (base + k) (color-between ps vs h s i (at-stop ∙ same k l m) not-last)
+        let at : ℕ = offset + (base + k * s) in
+        let x : ℕ = offset + (base + a * s) - getD ps i 0 + (k - a) * s in
+        let c : k - a + a ≡ k = omega arith in
+        let o : (k - a + a) * s ≡ k * s = ap (λ (j : ℕ). j * s) c in
+        let ex : x ≡ at - getD ps i 0 = omega (arith, edges) in
+        let ey : getD ps (i + 1) 0 - getD ps i 0 - x ≡ getD ps (i + 1) 0 - at = omega (arith, edges) in
+        ap₂ (λ (u v : ℕ). packed (mixOf vs i u v)) ex ey ∙ entry-is ps vs h _ (base + k * s) (color-between ps vs h at i (at-stop ∙ same k l m) not-last)

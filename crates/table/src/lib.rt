@@ -1,16 +1,19 @@
 // A table of colors by location, each color packed into one number: filled from placed stops that are lent as two slices of numbers, and read.
 // Between two stops a table is filled by walks, with no division to an entry.
 use color::Rgba;
+use walk::Channels;
 ghost use mathlib.Core.Path.{_≡_};
 ghost use mathlib.Core.List.{List};
 ghost use Prim.Native.Nat.{ℕ, _+_, _-_, _*_, _≤_, _<_};
 ghost use lib.IntN.{pos};
 ghost use lib.ListN.{length};
+ghost use Rattle.color.specs.Stop.{Channel};
 ghost use Rattle.color.specs.Byte.{bytes, colorAt};
 ghost use Rattle.color.specs.Lent.{Lent, Small, stopsOf, lastUpTo};
 ghost use Rattle.picture.specs.Picture.{patched};
-ghost use Rattle.walk.specs.Walk.{Gap};
-ghost use Rattle.table.specs.Table.{packed, entryOf, entryAt, Table, walkedAt, Clear, Stored, Run};
+ghost use Rattle.walk.specs.Walk.{Gap, Fits};
+ghost use Rattle.walk.specs.Channels.{walkOf};
+ghost use Rattle.table.specs.Table.{packed, entryOf, entryAt, Spaced, Table, walkedAt, Reached, Spans, Clear, Stored, Run};
 
 // ---- packed colors
 
@@ -63,13 +66,13 @@ fn fill_flat(t: &mut [u32], at: usize, end: usize, v: u32)
     }
 }
 
-// Stores the colors of walks that begin at x units from stop i, of g up to the next.
-fn fill_walked(t: &mut [u32], at: usize, end: usize, values: &[u32], i: usize, g: u32, x: u32)
-    requires { ⌜ (at ≤ end) × (end ≤ length (now t)) × (length (now t) < 262144) ⌝ }
-    requires { ⌜ (4 * i + 7 < length (now values)) × Small (now values) × Gap g (x + (end - at)) ⌝ }
-    ensures { λ _. ⌜ Stored (walkedAt (now (values .entry)) i g x at) at end (now (t .entry)) (now (t .exit)) ⌝ }
+// Stores the colors of the walks, step by step.
+fn fill_steps(t: &mut [u32], at: usize, end: usize, start: Channels)
+    requires { ⌜ (at ≤ end) × (end ≤ length (now t)) ⌝ }
+    ensures { λ _. ⌜ ((vs : List ℕ) (i g s x a : ℕ) → a ≤ at → Spans g s x a end → (at < end → Reached vs i g s x a at start)
+        → Stored (walkedAt vs i g s x a) at end (now (t .entry)) (now (t .exit))) ⌝ }
 {
-    let mut w = walk::begin_all(values, i, g, x);
+    let mut w = start;
     let mut k = at;
     while k < end {
         t[k] = pack(walk::mixed(w));
@@ -78,14 +81,61 @@ fn fill_walked(t: &mut [u32], at: usize, end: usize, values: &[u32], i: usize, g
     }
 }
 
+// Stores the colors of the walks, 16 of them, and takes the walks past these. If the first color is the last, so are those between.
+fn fill_block(t: &mut [u32], at: usize, w: Channels) -> Channels
+    requires { ⌜ (at + 16 ≤ length (now t)) × ((c : Channel) → Fits 15 (walkOf w c)) ⌝ }
+    ensures { λ r. ⌜ ((vs : List ℕ) (i g s x a : ℕ) → a ≤ at → Spans g s x a (at + 16) → Reached vs i g s x a at w
+        → Stored (walkedAt vs i g s x a) at (at + 16) (now (t .entry)) (now (t .exit)) × (Spans g s x a (at + 17) → Reached vs i g s x a (at + 16) r)) ⌝ }
+{
+    let v = walk::leap_all(w);
+    if walk::alike(w, v) {
+        fill_flat(t, at, at + 16, pack(walk::mixed(w)));
+        return walk::next_all(v);
+    }
+    fill_steps(t, at, at + 16, w);
+    walk::next_all(v)
+}
+
+// Stores the colors of walks in steps of `stride` units that begin at x units from stop i, of g up to the next.
+fn fill_walked(
+    t: &mut [u32],
+    at: usize,
+    end: usize,
+    values: &[u32],
+    i: usize,
+    g: u32,
+    stride: u32,
+    x: u32,
+)
+    requires { ⌜ (at ≤ end) × (end ≤ length (now t)) × (length (now t) < 262144) ⌝ }
+    requires { ⌜ (4 * i + 7 < length (now values)) × Small (now values) × Gap g stride x × Spans g stride x at end ⌝ }
+    ensures { λ _. ⌜ Stored (walkedAt (now (values .entry)) i g stride x at) at end (now (t .entry)) (now (t .exit)) ⌝ }
+{
+    let mut w = walk::begin_all(values, i, g, stride, x);
+    let mut k = at;
+    while k + 16 <= end {
+        w = fill_block(t, k, w);
+        k += 16;
+    }
+    fill_steps(t, k, end, w);
+}
+
 // Stores the colors of the locations, each found by itself.
-fn fill_each(t: &mut [u32], at: usize, end: usize, positions: &[u32], values: &[u32], base: u32)
-    requires { ⌜ Lent (now positions) (now values) × (at ≤ end) × (end ≤ length (now t)) × (base + end ≤ 33554432) ⌝ }
-    ensures { λ _. ⌜ Stored (entryAt (now (positions .entry)) (now (values .entry)) base) at end (now (t .entry)) (now (t .exit)) ⌝ }
+fn fill_each(
+    t: &mut [u32],
+    at: usize,
+    end: usize,
+    positions: &[u32],
+    values: &[u32],
+    base: u32,
+    stride: u32,
+)
+    requires { ⌜ Lent (now positions) (now values) × (at ≤ end) × (end ≤ length (now t)) × (base + length (now t) * stride ≤ 33554432) × (length (now t) < 262144) ⌝ }
+    ensures { λ _. ⌜ Stored (entryAt (now (positions .entry)) (now (values .entry)) base stride) at end (now (t .entry)) (now (t .exit)) ⌝ }
 {
     let mut k = at;
     while k < end {
-        t[k] = color_of(positions, values, base + (k as u32));
+        t[k] = color_of(positions, values, base + (k as u32) * stride);
         k += 1;
     }
 }
@@ -125,35 +175,41 @@ fn fill_between(
     positions: &[u32],
     values: &[u32],
     base: u32,
+    stride: u32,
     i: usize,
 )
-    requires { ⌜ Lent (now positions) (now values) × Run (now positions) base at end (length (now t)) ⌝ }
-    requires { ⌜ (i + 1 ≡ lastUpTo (now positions) (33554432 + (base + at))) × (i + 1 < length (now positions)) ⌝ }
-    ensures { λ _. ⌜ Stored (entryAt (now (positions .entry)) (now (values .entry)) base) at end (now (t .entry)) (now (t .exit)) ⌝ }
+    requires { ⌜ Lent (now positions) (now values) × Run (now positions) base stride at end (length (now t)) ⌝ }
+    requires { ⌜ (i + 1 ≡ lastUpTo (now positions) (33554432 + (base + at * stride))) × (i + 1 < length (now positions)) ⌝ }
+    ensures { λ _. ⌜ Stored (entryAt (now (positions .entry)) (now (values .entry)) base stride) at end (now (t .entry)) (now (t .exit)) ⌝ }
 {
     let a = positions[i];
     let g = positions[i + 1] - a;
     if 16777216 <= g {
-        fill_each(t, at, end, positions, values, base);
+        fill_each(t, at, end, positions, values, base, stride);
         return;
     }
-    fill_walked(
-        t,
-        at,
-        end,
-        values,
-        i,
-        g,
-        33554432 + (base + (at as u32)) - a,
-    );
+    if g < stride {
+        fill_each(t, at, end, positions, values, base, stride);
+        return;
+    }
+    let x = 33554432 + (base + (at as u32) * stride) - a;
+    fill_walked(t, at, end, values, i, g, stride, x);
 }
 
 // Stores the colors of a run.
-fn fill_run(t: &mut [u32], at: usize, end: usize, positions: &[u32], values: &[u32], base: u32)
-    requires { ⌜ Lent (now positions) (now values) × Run (now positions) base at end (length (now t)) ⌝ }
-    ensures { λ _. ⌜ Stored (entryAt (now (positions .entry)) (now (values .entry)) base) at end (now (t .entry)) (now (t .exit)) ⌝ }
+fn fill_run(
+    t: &mut [u32],
+    at: usize,
+    end: usize,
+    positions: &[u32],
+    values: &[u32],
+    base: u32,
+    stride: u32,
+)
+    requires { ⌜ Lent (now positions) (now values) × Run (now positions) base stride at end (length (now t)) ⌝ }
+    ensures { λ _. ⌜ Stored (entryAt (now (positions .entry)) (now (values .entry)) base stride) at end (now (t .entry)) (now (t .exit)) ⌝ }
 {
-    let s = base + (at as u32);
+    let s = base + (at as u32) * stride;
     let place = color::last_up_to(positions, 33554432 + s);
     if place == 0 {
         fill_flat(t, at, end, color_of(positions, values, s));
@@ -163,25 +219,34 @@ fn fill_run(t: &mut [u32], at: usize, end: usize, positions: &[u32], values: &[u
         fill_flat(t, at, end, color_of(positions, values, s));
         return;
     }
-    fill_between(t, at, end, positions, values, base, place - 1);
+    fill_between(t, at, end, positions, values, base, stride, place - 1);
 }
 
 // ---- the table
+
+// Fills the table with the colors of the locations from `base` on, `stride` units apart.
+pub fn fill_spaced(t: &mut [u32], positions: &[u32], values: &[u32], base: u32, stride: u32)
+    requires { ⌜ Lent (now positions) (now values) × (0 < stride) × (base + length (now t) * stride ≤ 33554432) × (length (now t) < 262144) ⌝ }
+    ensures { λ _. ⌜ Spaced (now (positions .entry)) (now (values .entry)) base stride (now (t .exit)) × (length (now (t .exit)) ≡ length (now (t .entry))) ⌝ }
+{
+    let n = t.len();
+    let first = 33554432 + base;
+    let limit = first + (n as u32) * stride;
+    let mut k = 0;
+    while k < n {
+        let r = run_end(positions, first + (k as u32) * stride, limit);
+        let end = ((r - first + (stride - 1)) / stride) as usize;
+        fill_run(t, k, end, positions, values, base, stride);
+        k = end;
+    }
+}
 
 // Fills the table with the colors of the locations from `base` on.
 pub fn fill(t: &mut [u32], positions: &[u32], values: &[u32], base: u32)
     requires { ⌜ Lent (now positions) (now values) × (base + length (now t) ≤ 33554432) × (length (now t) < 262144) ⌝ }
     ensures { λ _. ⌜ Table (now (positions .entry)) (now (values .entry)) base (now (t .exit)) × (length (now (t .exit)) ≡ length (now (t .entry))) ⌝ }
 {
-    let n = t.len();
-    let first = 33554432 + base;
-    let limit = first + (n as u32);
-    let mut k = 0;
-    while k < n {
-        let end = (run_end(positions, first + (k as u32), limit) - first) as usize;
-        fill_run(t, k, end, positions, values, base);
-        k = end;
-    }
+    fill_spaced(t, positions, values, base, 1);
 }
 
 // ---- sizes

@@ -2,15 +2,16 @@
 -- Assumes nothing.
 use mathlib.Core.Path.{_≡_}
 use mathlib.Core.List.{List}
-use Prim.Native.Nat.{ℕ, _+_, _<_}
+use Prim.Native.Nat.{ℕ, _+_, _-_, _*_, _≤_}
+use Rattle.numbers.specs.Fraction.{nearest}
 use Rattle.color.specs.Stop.{Channel, red, green, blue, alpha}
 use Rattle.color.specs.Byte.{rgba}
-use Rattle.color.specs.Lent.{valuesAt}
+use Rattle.color.specs.Lent.{valuesAt, mix}
 use Rattle.color.specs.declared.Rgba.{Rgba}
-use Rattle.walk.specs.Walk.{Fits}
-use Rattle.walk.specs.Channels.{walkOf, Going}
+use Rattle.walk.specs.Walk.{Further, Fits}
+use Rattle.walk.specs.Channels.{walkOf, Going, Alike, mixOf}
 use Rattle.walk.specs.declared.Channels.{Channels}
-use Rattle.walk.proofs.Walks.{walk-fits}
+use Rattle.walk.proofs.Walks.{walk-fits, walk-further, walk-steady}
 
 -- what holds of each channel
 pub every : (P : Channel → Type 0) → P red → P green → P blue → P alpha → (c : Channel) → P c
@@ -23,5 +24,19 @@ pub rgba-is : (f : Channel → ℕ) {r g b a : ℕ} → r ≡ f red → g ≡ f 
     → _≡_ {A = Rgba} (record { red = r; green = g; blue = b; alpha = a }) (rgba f)
 rgba-is f hr hg hb ha = rw (hr, hg, hb, ha)
 
-pub going-fits : (vs : List ℕ) (i g x left : ℕ) (w : Channels) → x < g → Going vs i g x (left + 1) w → (c : Channel) → Fits (walkOf w c)
-going-fits vs i g x left w l h c = walk-fits (valuesAt vs i c) (valuesAt vs (i + 1) c) g x left (walkOf w c) (h c) l
+-- n steps at once
+module _ (n : ℕ) (vs : List ℕ) (i g s x left : ℕ) (w : Channels) (l : x + n * s ≤ g) (h : Going vs i g s x (left + n) w) where
+  pub going-fits : (c : Channel) → Fits n (walkOf w c)
+  going-fits c = walk-fits n (valuesAt vs i c) (valuesAt vs (i + 1) c) g s x left (walkOf w c) (h c) l
+
+  pub going-further : (v : Channels) → ((c : Channel) → Further n (walkOf w c) (walkOf v c)) → Going vs i g s (x + n * s) left v
+  going-further v e c = walk-further n (valuesAt vs i c) (valuesAt vs (i + 1) c) g s x left (walkOf w c) (h c) l (walkOf v c) (e c)
+
+-- a leap that ends at the color where it began passes no other
+pub going-steady : (vs : List ℕ) (i g s x left : ℕ) (w v : Channels) → x + 15 * s ≤ g → Going vs i g s x (left + 16) w
+    → ((c : Channel) → Further 15 (walkOf w c) (walkOf v c)) → Alike w v
+    → (n : ℕ) → n ≤ 15 → mixOf vs i (x + n * s) (g - (x + n * s)) ≡ mixOf vs i x (g - x)
+going-steady vs i g s x left w v l h e same n m =
+    let byte : (c : Channel) → nearest (mix (valuesAt vs i c) (valuesAt vs (i + 1) c) (x + n * s) (g - (x + n * s))) ≡ nearest (mix (valuesAt vs i c) (valuesAt vs (i + 1) c) x (g - x)) =
+    λ c. walk-steady (valuesAt vs i c) (valuesAt vs (i + 1) c) g s x left (walkOf w c) (walkOf v c) (h c) l (e c) (same c) n m in
+    rgba-is (λ c. nearest (mix (valuesAt vs i c) (valuesAt vs (i + 1) c) x (g - x))) (byte red) (byte green) (byte blue) (byte alpha)

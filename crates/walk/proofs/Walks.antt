@@ -1,12 +1,13 @@
 -- Laws of walks: how one begins, what its byte is, and how it goes on.
 -- Assumes nothing.
-use mathlib.Core.Path.{_≡_, sym, ap, _∙_}
+use mathlib.Core.Path.{_≡_, refl, sym, ap, _∙_}
 use Prim.Native.Nat.{ℕ, _+_, _-_, _*_, _/_, _%_, _^_, _≤_, _<_}
 use native.Mathlib.Nat.{mul-le-mul-left, mul-le-mul-right, le-of-mul-le-mul-left, lt-of-mul-lt-mul-left, div-eq-of-lt-le, div-add-mod', mod-lt, div-mul-le-self, lt-div-mul-add, div-lt-iff-lt-mul, mul-div-le, lt-mul-div-succ}
+use native.Mathlib.Decide.{decLe}
 use native.Mathlib.Omega.{arith}
 use Rattle.numbers.specs.Fraction.{nearest}
 use Rattle.color.specs.Lent.{mix}
-use Rattle.walk.specs.Walk.{scale, Inside, numeratorAt, Walks, Fits}
+use Rattle.walk.specs.Walk.{scale, Inside, numeratorAt, Walks, Further, Fits}
 use Rattle.walk.specs.declared.Walk.{Walk}
 
 -- ---- a quotient with 54 binary digits after the point, in two rounds
@@ -34,32 +35,44 @@ module _ (n d : ℕ) (p : 0 < d) where
   near = (mul-div-le n d, omega (arith, lt-mul-div-succ n p))
 
 -- ---- the exact number
-module _ (p q g x : ℕ) (i : Inside p q g x) where
+module _ (p q g x : ℕ) (hp : p ≤ 65025) (hq : q ≤ 65025) (l : x ≤ g) where
   pub parts : (p * (g - x) ≤ 65025 * (g - x)) × (q * x ≤ 65025 * x)
-  parts = (mul-le-mul-right (g - x) (i .first), mul-le-mul-right x (i .second))
+  parts = (mul-le-mul-right (g - x) hp, mul-le-mul-right x hq)
 
   pub top : numeratorAt p q g x ≤ 130305 * g
-  top = omega (arith, parts, i .gap .within)
+  top = omega (arith, parts)
 
   -- over 510 g, rounded down, it is the mix's byte
   mix-is : nearest (mix p q x (g - x)) ≡ numeratorAt p q g x / (510 * g)
   mix-is =
-      let e : x + (g - x) ≡ g = omega (arith, i .gap .within) in
+      let e : x + (g - x) ≡ g = omega arith in
       let d : 2 * (255 * g) ≡ 510 * g = omega arith in
       rw (e, d)
 
+-- m units further there is more of Q and less of P
+ahead : (p q g x m : ℕ) → x + m ≤ g → numeratorAt p q g (x + m) + 2 * p * m ≡ numeratorAt p q g x + 2 * q * m
+ahead p q g x m l =
+    let e : g - x ≡ g - (x + m) + m = omega arith in
+    let h : p * (g - x) ≡ p * (g - (x + m) + m) = ap (λ (z : ℕ). p * z) e in
+    omega arith
+
+-- a step's share of the gap
+pub share : (p g s : ℕ) → p ≤ 65025 → 0 < g → s ≤ g → 2 * p * s < 512 * (510 * g)
+share p g s hp some l = omega (arith, mul-le-mul-right s hp)
+
+module _ (p q g s x : ℕ) (i : Inside p q g s x) where
   -- where a walk begins, f is above the exact number by 262,145 to 1,843,232
   pub begin-is : (f u d : ℕ) → numeratorAt p q g x * scale / (510 * g) + 262145 ≤ f → f ≤ numeratorAt p q g x * scale / (510 * g) + 1843232
-      → u ≡ 2 * q * scale / (510 * g) → d ≡ 2 * p * scale / (510 * g) → Walks p q g x 262144 (record { f = f; up = u; down = d })
+      → u ≡ 2 * q * s * scale / (510 * g) → d ≡ 2 * p * s * scale / (510 * g) → Walks p q g s x 262144 (record { f = f; up = u; down = d })
   begin-is f u d lo hi eu ed =
       let some : 0 < 510 * g = omega (arith, i .gap .some) in
       let a = near (numeratorAt p q g x * scale) (510 * g) some in
-      let b = near (2 * q * scale) (510 * g) some in
-      let c = near (2 * p * scale) (510 * g) some in
+      let b = near (2 * q * s * scale) (510 * g) some in
+      let c = near (2 * p * s * scale) (510 * g) some in
       let ml : 510 * g * (numeratorAt p q g x * scale / (510 * g) + 262145) ≤ 510 * g * f = mul-le-mul-left (510 * g) lo in
       let mh : 510 * g * f ≤ 510 * g * (numeratorAt p q g x * scale / (510 * g) + 1843232) = mul-le-mul-left (510 * g) hi in
-      let mu : 510 * g * u ≡ 510 * g * (2 * q * scale / (510 * g)) = ap (λ (z : ℕ). 510 * g * z) eu in
-      let md : 510 * g * d ≡ 510 * g * (2 * p * scale / (510 * g)) = ap (λ (z : ℕ). 510 * g * z) ed in
+      let mu : 510 * g * u ≡ 510 * g * (2 * q * s * scale / (510 * g)) = ap (λ (z : ℕ). 510 * g * z) eu in
+      let md : 510 * g * d ≡ 510 * g * (2 * p * s * scale / (510 * g)) = ap (λ (z : ℕ). 510 * g * z) ed in
       record {
         inside = i;
         low = omega arith;
@@ -71,50 +84,99 @@ module _ (p q g x : ℕ) (i : Inside p q g x) where
       }
 
 -- ---- a walk
-module _ (p q g x left : ℕ) (w : Walk) (h : Walks p q g x (left + 1) w) where
-  pub walk-byte : w .f / scale ≡ nearest (mix p q x (g - x))
-  walk-byte =
-      let d : ℕ = 510 * g in
-      let n : ℕ = numeratorAt p q g x in
-      let some : 0 < d = omega (arith, h .inside .gap .some) in
-      let b : ℕ = n / d in
-      let lo : b * d ≤ n = div-mul-le-self n d in
-      let hi : n < b * d + d = lt-div-mul-add some in
-      let below : d * (b * scale) ≤ d * w .f = omega (arith, h .low) in
-      let above : d * w .f < d * ((b + 1) * scale) = omega (arith, h .high) in
-      div-eq-of-lt-le {k = b} scale (le-of-mul-le-mul-left {k = d} below some) (lt-of-mul-lt-mul-left d above)
-      ∙ sym (mix-is p q g x (h .inside))
+pub walk-byte : (p q g s x left : ℕ) (w : Walk) → Walks p q g s x (left + 1) w → w .f / scale ≡ nearest (mix p q x (g - x))
+walk-byte p q g s x left w h =
+    let d : ℕ = 510 * g in
+    let n : ℕ = numeratorAt p q g x in
+    let some : 0 < d = omega (arith, h .inside .gap .some) in
+    let b : ℕ = n / d in
+    let lo : b * d ≤ n = div-mul-le-self n d in
+    let hi : n < b * d + d = lt-div-mul-add some in
+    let below : d * (b * scale) ≤ d * w .f = omega (arith, h .low) in
+    let above : d * w .f < d * ((b + 1) * scale) = omega (arith, h .high) in
+    div-eq-of-lt-le {k = b} scale (le-of-mul-le-mul-left {k = d} below some) (lt-of-mul-lt-mul-left d above)
+    ∙ sym (mix-is p q g x (h .inside .first) (h .inside .second) (h .inside .gap .within))
 
-  module _ (l : x < g) where
-    step : numeratorAt p q g (x + 1) + 2 * p ≡ numeratorAt p q g x + 2 * q
-    step =
-        let e : g - x ≡ g - (x + 1) + 1 = omega arith in
-        let m : p * (g - x) ≡ p * (g - (x + 1) + 1) = ap (λ (z : ℕ). p * z) e in
+-- the byte fits 8 bits
+pub walk-small : (p q g s x left : ℕ) (w : Walk) → Walks p q g s x left w → w .f < 2 ^ 62
+walk-small p q g s x left w h =
+    let i = h .inside in
+    let some = i .gap .some in
+    lt-of-mul-lt-mul-left (510 * g) (omega (arith, top p q g x (i .first) (i .second) (i .gap .within), h .high))
+
+-- n steps at once
+module _ (n p q g s x left : ℕ) (w : Walk) (h : Walks p q g s x (left + n) w) (l : x + n * s ≤ g) where
+  step : numeratorAt p q g (x + n * s) + 2 * p * (n * s) ≡ numeratorAt p q g x + 2 * q * (n * s)
+  step = ahead p q g x (n * s) l
+
+  up-low : n * (510 * g * w .up) ≤ n * (2 * q * s * scale)
+  up-low = mul-le-mul-left n (h .up-low)
+
+  up-high : n * (2 * q * s * scale) ≤ n * (510 * g * w .up + 510 * g)
+  up-high = mul-le-mul-left n (h .up-high)
+
+  down-low : n * (510 * g * w .down) ≤ n * (2 * p * s * scale)
+  down-low = mul-le-mul-left n (h .down-low)
+
+  down-high : n * (2 * p * s * scale) ≤ n * (510 * g * w .down + 510 * g)
+  down-high = mul-le-mul-left n (h .down-high)
+
+  pub walk-fits : Fits n w
+  walk-fits =
+      let i = h .inside in
+      let some : 0 < 510 * g = omega (arith, i .gap .some) in
+      record {
+        here = walk-small p q g s x (left + n) w h;
+        up = lt-of-mul-lt-mul-left (510 * g) (omega (arith, up-low, mul-le-mul-right (n * s) (i .second)));
+        down = lt-of-mul-lt-mul-left (510 * g) (omega (arith, down-low, mul-le-mul-right (n * s) (i .first)));
+        room = le-of-mul-le-mul-left {k = 510 * g} (omega (arith, step, h .low, up-high, down-low)) some;
+      }
+
+  pub walk-further : (v : Walk) → Further n w v → Walks p q g s (x + n * s) left v
+  walk-further v e =
+      let m : 510 * g * (v .f + n * w .down) ≡ 510 * g * (w .f + n * w .up) = ap (λ (z : ℕ). 510 * g * z) (e .f) in
+      let i = h .inside in
+      let j = i .gap in
+      record {
+        inside = record { first = i .first; second = i .second; gap = record { some = j .some; small = j .small; stride = j .stride; within = l } };
+        low = omega (arith, step, h .low, up-high, down-low);
+        high = omega (arith, step, h .high, up-low, down-high);
+        up-low = rw (e .up) (h .up-low);
+        up-high = rw (e .up) (h .up-high);
+        down-low = rw (e .down) (h .down-low);
+        down-high = rw (e .down) (h .down-high);
+      }
+
+-- ---- a leap that ends at the byte where it began passes no other
+between : (f up down z y n : ℕ) → n ≤ 15 → z + 15 * down ≡ f + 15 * up → y + n * down ≡ f + n * up → f / scale ≡ z / scale → y / scale ≡ f / scale
+between f up down z y n l ez ey same = either (decLe down up)
+  where
+    either : Dec (down ≤ up) → y / scale ≡ f / scale
+    either (yes h) =
+        let d : ℕ = up - down in
+        let e : down + d ≡ up = omega arith in
+        let m : n * (down + d) ≡ n * up = ap (λ (k : ℕ). n * k) e in
+        let k : n * d ≤ 15 * d = mul-le-mul-right d l in
+        omega arith
+    either (no h) =
+        let d : ℕ = down - up in
+        let e : up + d ≡ down = omega arith in
+        let m : n * (up + d) ≡ n * down = ap (λ (k : ℕ). n * k) e in
+        let k : n * d ≤ 15 * d = mul-le-mul-right d l in
         omega arith
 
-    room : w .down ≤ w .f + w .up
-    room = le-of-mul-le-mul-left {k = 510 * g} (omega (arith, step, h .low, h .up-high, h .down-low)) (omega arith)
-
-    pub walk-fits : Fits w
-    walk-fits =
-        let i = h .inside in
-        let some : 0 < 510 * g = omega arith in
-        let f : w .f < 2 ^ 62 = lt-of-mul-lt-mul-left (510 * g) (omega (arith, top p q g x i, h .high)) in
-        let u : w .up ≤ 4593671619917905920 = le-of-mul-le-mul-left {k = 510 * g} (omega (arith, h .up-low, i .second)) some in
-        record { byte = f; sum = omega arith; room = room }
-
-    pub walk-next : (v : Walk) → v .f ≡ w .f + w .up - w .down → v .up ≡ w .up → v .down ≡ w .down → Walks p q g (x + 1) left v
-    walk-next v e eu ed =
-        let r = room in
-        let f : v .f + w .down ≡ w .f + w .up = omega arith in
-        let m : 510 * g * (v .f + w .down) ≡ 510 * g * (w .f + w .up) = ap (λ (z : ℕ). 510 * g * z) f in
-        let i = h .inside in
-        record {
-          inside = record { first = i .first; second = i .second; gap = record { some = i .gap .some; small = i .gap .small; within = omega arith } };
-          low = omega (arith, step, h .low, h .up-high, h .down-low);
-          high = omega (arith, step, h .high, h .up-low, h .down-high);
-          up-low = rw eu (h .up-low);
-          up-high = rw eu (h .up-high);
-          down-low = rw ed (h .down-low);
-          down-high = rw ed (h .down-high);
-        }
+module _ (p q g s x left : ℕ) (w v : Walk) (h : Walks p q g s x (left + 16) w) (l : x + 15 * s ≤ g) (e : Further 15 w v) (same : w .f / scale ≡ v .f / scale) where
+  pub walk-steady : (n : ℕ) → n ≤ 15 → nearest (mix p q (x + n * s) (g - (x + n * s))) ≡ nearest (mix p q x (g - x))
+  walk-steady n m =
+      let k : n * s ≤ 15 * s = mul-le-mul-right s m in
+      let e₁ : left + 16 ≡ left + 15 - n + 1 + n = omega arith in
+      let e₂ : left + 16 ≡ left + 15 + 1 = omega arith in
+      let a : Walks p q g s x (left + 15 - n + 1 + n) w = rw e₁ at h in
+      let b : Walks p q g s x (left + 15 + 1) w = rw e₂ at h in
+      let r = walk-fits n p q g s x (left + 15 - n + 1) w a (omega arith) .room in
+      let u : Walk = record { f = w .f + n * w .up - n * w .down; up = w .up; down = w .down } in
+      let f : u .f + n * w .down ≡ w .f + n * w .up = omega arith in
+      let o = walk-further n p q g s x (left + 15 - n + 1) w a (omega arith) u (record { f = f; up = refl; down = refl }) in
+      sym (walk-byte p q g s (x + n * s) (left + 15 - n) u o)
+      ∙ between (w .f) (w .up) (w .down) (v .f) (u .f) n m (e .f) f same
+      ∙ walk-byte p q g s x (left + 15) w b

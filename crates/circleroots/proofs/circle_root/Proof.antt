@@ -19,8 +19,8 @@ returns c =
     let s = c .before .before in
     guess-is (s .args .d) (s .args .guess) (c .before .wrapping-sub-u64 .result) (s .fits .guess .fits) (c .before .wrapping-sub-u64 .ensures) (c .if1 .taken)
 
-likely-requires : tie.Need-likely-requires
-likely-requires c κs = search needs
+ahead-requires : tie.Need-ahead-requires
+ahead-requires c κs = search needs
 
 root-near-requires : tie.Need-root-near-requires
 root-near-requires c κs = search needs
@@ -36,6 +36,6 @@ circle-root-spec =
     wrapping-sub-u64-requires
     mul-if1
     returns
-    likely-requires
+    ahead-requires
     root-near-requires
     returns-2)

@@ -1,12 +1,18 @@
 -- `circleroots::corrected` meets its contract. Assumes nothing.
+use mathlib.Core.Path.{refl}
+use Prim.Native.Nat.{ℕ, _+_, _*_, _%_}
 use native.Mathlib.Omega.{arith}
 use Rattle.circleroots.proofs.Guesses.{square-fits}
+use Rattle.circleroots.proofs.Sure.{corrects}
 use borrow.Author.Needs.{needs}
 use Rattle.circleroots.proofs.corrected.Statement.{statement}
 use Rattle.circleroots.proofs.corrected.Tie as tie
 
+cast-b : tie.Need-cast-b
+cast-b c = search needs
+
 mul-low-half : tie.Need-mul-low-half
-mul-low-half c = omega (arith, square-fits (c .args .g) (c .fits .g .fits))
+mul-low-half c = omega (arith, square-fits (c .args .g % 134217728) (omega arith))
 
 low-half-requires : tie.Need-low-half-requires
 low-half-requires c κs = search needs
@@ -14,42 +20,65 @@ low-half-requires c κs = search needs
 wrapping-sub-u32-requires : tie.Need-wrapping-sub-u32-requires
 wrapping-sub-u32-requires c κs = search needs
 
-wrapping-add-u32-requires : tie.Need-wrapping-add-u32-requires
-wrapping-add-u32-requires c κs = search needs
+mul-one : tie.Need-mul-one
+mul-one c = search needs
 
-wrapping-add-u32-requires-2 : tie.Need-wrapping-add-u32-requires-2
-wrapping-add-u32-requires-2 c κs = search needs
+mul-two : tie.Need-mul-two
+mul-two c = search needs
 
-wrapping-add-u32-requires-3 : tie.Need-wrapping-add-u32-requires-3
-wrapping-add-u32-requires-3 c κs = search needs
+add-two : tie.Need-add-two
+add-two c = search needs
+
+add-three : tie.Need-add-three
+add-three c = search needs
+
+add-three-2 : tie.Need-add-three-2
+add-three-2 c = search needs
 
 above-requires : tie.Need-above-requires
 above-requires c κs = search needs
 
-wrapping-add-u32-requires-4 : tie.Need-wrapping-add-u32-requires-4
-wrapping-add-u32-requires-4 c κs = search needs
+add-result : tie.Need-add-result
+add-result c = search needs
 
 above-requires-2 : tie.Need-above-requires-2
 above-requires-2 c κs = search needs
 
-wrapping-add-u32-requires-5 : tie.Need-wrapping-add-u32-requires-5
-wrapping-add-u32-requires-5 c κs = search needs
+add-result-2 : tie.Need-add-result-2
+add-result-2 c = search needs
+
+above-requires-3 : tie.Need-above-requires-3
+above-requires-3 c κs = search needs
+
+add-result-3 : tie.Need-add-result-3
+add-result-3 c = search needs
 
 returns : tie.Need-returns
-returns c = search needs
+returns c = λ h.
+    let a = c .before .before .before .before .before .args in
+    let m : ℕ = a .g % 134217728 in
+    let rest : ℕ = c .before .before .before .wrapping-sub-u32 .result in
+    corrects (a .low) (a .g) m _ (c .before .before .before .before .low-half .result) rest (rest % 2147483648) (2 * m) (2 * (2 * m) + 3) (2 * m + (2 * (2 * m) + 3) + 5)
+    (c .before .before .above .result) (c .before .above2 .result) (c .above3 .result) refl (c .before .before .before .before .low-half .ensures) (c .before .before .before .wrapping-sub-u32 .ensures) refl (omega arith) refl refl refl
+    (c .before .before .above .ensures) (c .before .above2 .ensures) (c .above3 .ensures) refl h
 
 pub corrected-spec : {M : Type 1} → statement M
 corrected-spec =
     tie.close
     (tie.spec
+    cast-b
     mul-low-half
     low-half-requires
     wrapping-sub-u32-requires
-    wrapping-add-u32-requires
-    wrapping-add-u32-requires-2
-    wrapping-add-u32-requires-3
+    mul-one
+    mul-two
+    add-two
+    add-three
+    add-three-2
     above-requires
-    wrapping-add-u32-requires-4
+    add-result
     above-requires-2
-    wrapping-add-u32-requires-5
+    add-result-2
+    above-requires-3
+    add-result-3
     returns)

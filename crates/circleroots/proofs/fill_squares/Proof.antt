@@ -1,22 +1,23 @@
 -- `circleroots::fill_squares` meets its contract. Assumes nothing.
-use mathlib.Core.Path.{_≡_, refl}
-use Prim.Native.Nat.{_-_, _≤_}
+use mathlib.Core.Path.{_≡_, refl, ap, _∙_}
+use Prim.Native.Nat.{ℕ, _-_, _%_, _≤_}
 use native.Mathlib.Omega.{arith}
 use lib.ListN.{length, length-set}
 use borrow.Author.Needs.{needs}
-use Rattle.circleroots.specs.Squares.{Squares}
-use Rattle.circleroots.proofs.Columns.{square-set}
+use Rattle.circleroots.specs.Squares.{squareOf, Squares, LowHalves}
+use Rattle.circleroots.proofs.Columns.{filled-set}
 use Rattle.circleroots.proofs.fill_squares.Statement.{statement}
 use Rattle.circleroots.proofs.fill_squares.Tie as tie
 
 abbrev Inv-loop : tie.InvT-loop
-Inv-loop squares₀ low₀ w x i₀ squares low i = Squares x i squares × (i ≤ w) × (length squares ≡ length squares₀) × (length low ≡ length low₀)
+Inv-loop squares₀ low₀ w x i₀ squares low i =
+    Squares x i squares × LowHalves x i low × (i ≤ w) × (length squares ≡ length squares₀) × (length low ≡ length low₀)
 
 abbrev μ-loop : tie.MeasureT-loop
 μ-loop squares₀ low₀ w x i₀ squares low i = w - i
 
 loop-holds : tie.Need-loop-holds Inv-loop μ-loop
-loop-holds c = (record { at = λ k h. absurd (omega arith) }, omega arith, refl, refl)
+loop-holds c = (record { at = λ k h. absurd (omega arith) }, record { room = omega arith; at = λ k h. absurd (omega arith) }, omega arith, refl, refl)
 
 square-requires : tie.Need-square-requires Inv-loop μ-loop
 square-requires c κs = search needs
@@ -44,8 +45,14 @@ loop-less c = search needs
 
 loop-again : tie.Need-loop-again Inv-loop μ-loop
 loop-again c =
-    let l = c .before .before .before .loop in (
-      square-set (c .before .before .before .before .before .before .args .c .x) (l .i) (l .squares) (c .before .square .result) (c .before .square .ensures .0) (omega arith) (l .inv .0),
+    let l = c .before .before .before .loop in
+    let x : ℕ = c .before .before .before .before .before .before .args .c .x in (
+      record { at = filled-set (squareOf x) (l .i) (l .squares) (c .before .square .result) (c .before .square .ensures .0) (omega arith) (l .inv .0 .at) },
+      record {
+        room = simp length-set (omega arith);
+        at = filled-set (λ (k : ℕ). squareOf x k % 4294967296) (l .i) (l .low) (c .low-half .result)
+            (c .low-half .ensures ∙ ap (λ (n : ℕ). n % 4294967296) (c .before .square .ensures .0)) (omega arith) (l .inv .1 .at);
+      },
       omega arith,
       simp length-set (omega arith),
       simp length-set (omega arith),
@@ -58,7 +65,7 @@ same-length-2 : tie.Need-same-length-2 Inv-loop μ-loop
 same-length-2 c = search needs
 
 returns : tie.Need-returns Inv-loop μ-loop
-returns c = record { at = λ k h. c .before .loop .inv .0 .at k (omega arith) }
+returns c = (record { at = λ k h. c .before .loop .inv .0 .at k (omega arith) }, record { room = omega (arith, c .before .loop .inv .1 .room); at = λ k h. c .before .loop .inv .1 .at k (omega arith) })
 
 pub fill-squares-spec : {M : Type 1} → statement M
 fill-squares-spec =

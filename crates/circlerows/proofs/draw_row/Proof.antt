@@ -8,6 +8,9 @@ use mir.Val.{Fits}
 use denote.Ref.{now}
 use lib.IntN.{pos}
 use lib.ListN.{length, length-set}
+use Rattle.line.specs.Location.{locationBy}
+use Rattle.line.specs.Circle.{circleRule}
+use Rattle.line.specs.Held.{centerIn}
 use Rattle.line.specs.declared.Line.the-variants as L
 use Rattle.color.specs.Byte.{bytes, colorAt}
 use Rattle.color.specs.Lent.{stopsOf}
@@ -16,22 +19,28 @@ use Rattle.picture.proofs.Rows.{row-none, row-more, row-length}
 use Rattle.picture.proofs.Patches.{patch-none, patch-step}
 use Rattle.rows.specs.Pixel.{lentPixel}
 use Rattle.rows.proofs.Pixels.{four}
+use Rattle.circleroots.specs.Squares.{Known}
+use Rattle.circleroots.proofs.Columns.{filled-set}
 use borrow.Author.Needs.{needs}
 use Rattle.circlerows.proofs.draw_row.Statement.{statement}
 use Rattle.circlerows.proofs.draw_row.Tie as tie
 
 abbrev Inv-loop : tie.InvT-loop
-Inv-loop t base positions values squares guesses₀ c w h j at buf₀ own i₀ o₀ last₀ guesses buf i o last =
+Inv-loop t base positions values squares guesses₀ c w h j at buf₀ own i₀ o₀ before₀ last₀ guesses buf i o before last =
     (buf ≡ patched buf₀ at (row (lentPixel positions values (L.Circle c) w h) i j)) × (o ≡ at + 4 * i) × (i ≤ w) × (length buf ≡ length buf₀) × (length guesses ≡ length guesses₀)
+    × Known c i j guesses
 
 abbrev μ-loop : tie.MeasureT-loop
-μ-loop t base positions values squares guesses₀ c w h j at buf₀ own i₀ o₀ last₀ guesses buf i o last = w - i
+μ-loop t base positions values squares guesses₀ c w h j at buf₀ own i₀ o₀ before₀ last₀ guesses buf i o before last = w - i
 
 square-requires : tie.Need-square-requires Inv-loop μ-loop
 square-requires c κs = let p = c .before .before .before .before .before .before .pre in (p .0 .near .y, omega (arith, p .0 .box .height, p .1))
 
+slice-read-before : tie.Need-slice-read-before Inv-loop μ-loop
+slice-read-before c = let p = c .before .before .before .before .before .before .before .before .pre in omega (arith, p .0 .box .some-width, p .2)
+
 loop-holds : tie.Need-loop-holds Inv-loop μ-loop
-loop-holds c = let a = c .before .before .before .before .before .before .before .args in (rw row-none (patch-none (now (a .buf)) (a .at)), omega arith, omega arith, refl, refl)
+loop-holds c = let a = c .before .before .before .before .before .before .before .before .args in (rw row-none (patch-none (now (a .buf)) (a .at)), omega arith, omega arith, refl, refl, record { at = λ k h. absurd (omega arith) })
 
 mul-locate : tie.Need-mul-locate Inv-loop μ-loop
 mul-locate c = search needs
@@ -41,9 +50,9 @@ slice-read-locate c = search needs
 
 locate-requires : tie.Need-locate-requires Inv-loop μ-loop
 locate-requires c κs =
-    let s = c .before .before .before .before .before .before .before .before .before .before in
+    let s = c .before .before .before .before .before .before .before .before .before .before .before in
     let p = s .pre .0 in
-    (record { near = p .near; width = p .box .width; height = omega (arith, p .box .height, s .pre .1); room = p .room; columns = p .columns; own = c .before .before .before .square .ensures .0 }, p .box, omega arith, s .pre .1)
+    (record { near = p .near; width = p .box .width; height = omega (arith, p .box .height, s .pre .1); room = p .room; columns = p .columns; own = c .before .before .before .before .square .ensures .0 }, p .box, omega arith, s .pre .1)
 
 mul-guesses : tie.Need-mul-guesses Inv-loop μ-loop
 mul-guesses c = search needs
@@ -52,7 +61,7 @@ slice-write-guesses : tie.Need-slice-write-guesses Inv-loop μ-loop
 slice-write-guesses c = search needs
 
 entry-requires : tie.Need-entry-requires Inv-loop μ-loop
-entry-requires c κs = let p = c .before .before .before .before .before .before .before .before .before .before .before .pre .0 in (p .lent, p .table, c .locate .ensures .1)
+entry-requires c κs = let p = c .before .before .before .before .before .before .before .before .before .before .before .before .pre .0 in (p .lent, p .table, c .locate .ensures .1)
 
 put-entry-requires : tie.Need-put-entry-requires Inv-loop μ-loop
 put-entry-requires c κs = omega arith
@@ -71,7 +80,7 @@ loop-less c = omega arith
 
 loop-again : tie.Need-loop-again Inv-loop μ-loop
 loop-again c =
-    let s = c .before .before .before .before .before .before .before .before .before .before .before .before .before .before .before .before in
+    let s = c .before .before .before .before .before .before .before .before .before .before .before .before .before .before .before .before .before in
     let a = s .args in
     let l = c .before .before .before .before .before .before .before .before .loop in
     let ps : List ℕ = a .positions .now in
@@ -87,6 +96,7 @@ loop-again c =
       omega arith,
       omega arith,
       length-set (l .guesses) (l .i) (q .result) ∙ l .inv .4,
+      record { at = filled-set (λ (k : ℕ). locationBy (circleRule (centerIn (a .c))) k (a .j)) (l .i) (l .guesses) (q .result) (q .ensures .0) (omega arith) (l .inv .5 .at) },
     )
 
 same-length : tie.Need-same-length Inv-loop μ-loop
@@ -97,8 +107,12 @@ same-length-2 c = c .before .loop .inv .3
 
 returns : tie.Need-returns Inv-loop μ-loop
 returns c =
-    let a = c .before .before .before .before .before .before .before .before .before .args in
-    c .before .loop .inv .0 ∙ ap (λ (n : ℕ). patched (now (a .buf)) (a .at) (row (lentPixel (a .positions .now) (a .values .now) (L.Circle (a .c)) (a .w) (a .h)) n (a .j))) (omega arith)
+    let a = c .before .before .before .before .before .before .before .before .before .before .args in
+    let l = c .before .loop in
+    let e : l .i ≡ a .w = omega arith in (
+      l .inv .0 ∙ ap (λ (n : ℕ). patched (now (a .buf)) (a .at) (row (lentPixel (a .positions .now) (a .values .now) (L.Circle (a .c)) (a .w) (a .h)) n (a .j))) e,
+      record { at = λ k h. l .inv .5 .at k (omega arith) },
+    )
 
 pub draw-row-spec : {M : Type 1} → statement M
 draw-row-spec =
@@ -107,6 +121,7 @@ draw-row-spec =
     Inv-loop
     μ-loop
     square-requires
+    slice-read-before
     loop-holds
     mul-locate
     slice-read-locate

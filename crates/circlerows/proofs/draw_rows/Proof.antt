@@ -1,11 +1,11 @@
 -- `circlerows::draw_rows` meets its contract. The invariant: the rows from a up to j stand from the buffer's start on. Assumes nothing.
-use mathlib.Core.Path.{_≡_, refl}
+use mathlib.Core.Path.{_≡_, refl, ap, _∙_}
+use mathlib.Core.Bool.{Bool, true, false}
 use mathlib.Core.List.{List}
-use Prim.Native.Nat.{ℕ, _+_, _-_, _*_, _≤_}
-use native.Mathlib.Nat.{mul-le-mul, mul-zero, sub-self}
+use mathlib.Core.Logic.{⊎-elim}
+use Prim.Native.Nat.{ℕ, _+_, _-_, _*_, _≤_, _<_}
+use native.Mathlib.Nat.{mul-zero, sub-self}
 use native.Mathlib.Omega.{arith}
-use mir.Syntax.{w64}
-use mir.Val.{Fits}
 use denote.Ref.{now}
 use lib.ListN.{length}
 use Rattle.line.specs.declared.Line.the-variants as L
@@ -15,16 +15,22 @@ use Rattle.picture.proofs.Patches.{patch-none}
 use Rattle.rows.specs.Pixel.{lentPixel}
 use Rattle.rows.proofs.Pixels.{four, rows-turn}
 use borrow.Author.Needs.{needs}
+use Rattle.circlerows.specs.Circular.{BeforeInTurn}
+use Rattle.circlerows.proofs.Mirrors.{mirror-turn}
 use Rattle.circlerows.proofs.draw_rows.Statement.{statement}
 use Rattle.circlerows.proofs.draw_rows.Tie as tie
 
 abbrev Inv-loop : tie.InvT-loop
-Inv-loop t base positions values squares low p₀ q₀ c w h a b buf₀ n j₀ o₀ p q buf j o =
+Inv-loop t base positions values squares low p₀ q₀ c w h a b buf₀ n j₀ o₀ follows₀ both₀ p q buf j o follows both =
     (buf ≡ patched buf₀ 0 (strip (lentPixel positions values (L.Circle c) w h) w a j)) × (o ≡ 4 * w * (j - a)) × (a ≤ j) × (j ≤ b) × (length buf ≡ length buf₀)
     × (length p ≡ length p₀) × (length q ≡ length q₀)
+    × (follows ≡ true → BeforeInTurn c w 1 j p q) × (both ≡ true → BeforeInTurn c w 2 j p q)
 
 abbrev μ-loop : tie.MeasureT-loop
-μ-loop t base positions values squares low p₀ q₀ c w h a b buf₀ n j₀ o₀ p q buf j o = b - j
+μ-loop t base positions values squares low p₀ q₀ c w h a b buf₀ n j₀ o₀ follows₀ both₀ p q buf j o follows both = b - j
+
+unset : (f : Bool) → f ≡ false → f ≡ true → ⊥
+unset f p q = let z : _≡_ {A = ℕ} 0 1 = cc in omega arith
 
 mul-n : tie.Need-mul-n Inv-loop μ-loop
 mul-n c = search needs
@@ -32,24 +38,40 @@ mul-n c = search needs
 loop-holds : tie.Need-loop-holds Inv-loop μ-loop
 loop-holds c =
     let s = c .before .before .before .before .before .before .before .before in
-    (rw strip-none (patch-none (now (s .args .buf)) 0), rw (sub-self, mul-zero), omega arith, omega (arith, s .pre .4 .some), refl, refl, refl)
+    (rw strip-none (patch-none (now (s .args .buf)) 0), rw (sub-self, mul-zero), omega arith, omega (arith, s .pre .4 .some), refl, refl, refl, λ f. absurd (unset false refl f), λ f. absurd (unset false refl f))
+
+mirrored-requires : tie.Need-mirrored-requires Inv-loop μ-loop
+mirrored-requires c κs = let s = c .before .before .before .before .before .before .before .before .before .before in (omega arith, omega (arith, s .pre .0 .box .height, s .pre .4 .within))
+
+-- the mirror stands before the row, and both within the buffer
+room : (c : tie.In-loop Inv-loop μ-loop) → c .before .loop .o + 4 * c .before .before .before .before .before .before .before .before .before .before .args .w ≤ length (c .before .before .before .before .before .before .before .before .before .before .args .buf .now)
+room c =
+    let s = c .before .before .before .before .before .before .before .before .before .before in
+    let l = c .before .loop in
+    omega (arith, s .pre .4 .room, times-room (4 * s .args .w) (s .args .a) (s .args .b) (l .j) (l .inv .2) (omega arith))
+
+earlier : (c : tie.After-mirrored Inv-loop μ-loop) → c .mirrored .result < c .before .before .loop .j → 4 * c .before .before .before .before .before .before .before .before .before .before .before .args .w * (c .mirrored .result - c .before .before .before .before .before .before .before .before .before .before .before .args .a) + 4 * c .before .before .before .before .before .before .before .before .before .before .before .args .w ≤ c .before .before .loop .o
+earlier c h =
+    let s = c .before .before .before .before .before .before .before .before .before .before .before in
+    let l = c .before .before .loop in
+    omega (arith, times-room (4 * s .args .w) (s .args .a) (l .j) (c .mirrored .result) (c .mirrored .ensures .after) h)
+
+sub-copy-row : tie.Need-sub-copy-row Inv-loop μ-loop
+sub-copy-row c = omega (arith, c .before .before .mirrored .ensures .after)
+
+mul-copy-row : tie.Need-mul-copy-row Inv-loop μ-loop
+mul-copy-row c = omega (arith, earlier (c .before .before) (c .before .if1 .taken), room (c .before .before .before))
+
+copy-row-requires : tie.Need-copy-row-requires Inv-loop μ-loop
+copy-row-requires c κs = (earlier (c .before .before) (c .before .if1 .taken), omega (arith, room (c .before .before .before)))
 
 draw-turn-requires : tie.Need-draw-turn-requires Inv-loop μ-loop
 draw-turn-requires c κs =
-    let s = c .before .before .before .before .before .before .before .before .before .before .before .before .before in
-    let l = c .before .before .before .before .loop in
-    (s .pre .0, omega (arith, s .pre .4 .within), s .pre .1, omega (arith, s .pre .2), omega (arith, s .pre .3), omega (arith, s .pre .4 .room, times-room (4 * s .args .w) (s .args .a) (s .args .b) (l .j) (l .inv .2) (omega arith)))
-
-next-fits : (c : tie.In-loop Inv-loop μ-loop) → Fits w64 (c .before .loop .o + 4 * c .before .before .before .before .before .before .before .before .before .before .args .w)
-next-fits c =
-    let s = c .before .before .before .before .before .before .before .before .before .before in
-    let l = c .before .loop in
-    let x : 4 * s .args .w ≤ 8192 = omega (arith, s .pre .0 .box .width) in
-    let y : s .args .b - s .args .a ≤ 2048 = omega (arith, s .pre .0 .box .height, s .pre .4 .within) in
-    omega (arith, mul-le-mul x y, times-room (4 * s .args .w) (s .args .a) (s .args .b) (l .j) (l .inv .2) (omega arith))
+    let s = c .before .before .before .before .before .before .before .before .before .before .before .before .before .before .before in
+    (s .pre .0, omega (arith, s .pre .4 .within), s .pre .1, omega (arith, s .pre .2), omega (arith, s .pre .3), omega (arith, room (c .before .before .before .before .before)), c .before .before .before .before .before .before .loop .inv .7, c .before .before .before .before .before .before .loop .inv .8)
 
 add-o : tie.Need-add-o Inv-loop μ-loop
-add-o c = next-fits (c .before .before .before .before .before .before .before .before .before .before)
+add-o c = omega (arith, room (c .before .before))
 
 add-j : tie.Need-add-j Inv-loop μ-loop
 add-j c = omega arith
@@ -59,18 +81,28 @@ loop-less c = omega arith
 
 loop-again : tie.Need-loop-again Inv-loop μ-loop
 loop-again c =
-    let s = c .before .before .before .before .before .before .before .before .before .before .before .before .before .before .before .before .before .before .before .before in
+    let s = c .before .before .before .before .before .before .before .before .before .before .before .before in
     let a = s .args in
-    let l = c .before .before .before .before .before .before .before .before .before .before .before .loop in
-    let px : (ℕ → ℕ → List ℕ) = lentPixel (a .positions .now) (a .values .now) (L.Circle (a .c)) (a .w) (a .h) in (
-      rows-turn px (four (a .positions .now) (a .values .now) (L.Circle (a .c)) (a .w) (a .h)) (a .w) (a .a) (a .b) (l .j) (l .o) (now (a .buf)) (l .buf) _ (row px (a .w) (l .j))
-          (l .inv .2) (omega arith) (l .inv .1) (s .pre .4 .room) (l .inv .0) refl (c .before .before .before .before .before .before .draw-turn .ensures),
+    let l = c .before .before .before .loop in
+    let ps : List ℕ = a .positions .now in
+    let vs : List ℕ = a .values .now in
+    let px : (ℕ → ℕ → List ℕ) = lentPixel ps vs (L.Circle (a .c)) (a .w) (a .h) in (
+      ⊎-elim
+          (λ v. v .7
+          ∙ mirror-turn ps vs (a .c) (a .w) (a .h) (a .a) (a .b) (l .j) (c .before .mirrored .result) (l .o) (now (a .buf)) (l .buf) _
+          (c .before .mirrored .ensures) (v .0 .taken) (omega arith) (l .inv .1) (s .pre .4 .room) (l .inv .0) (v .2 .ensures))
+          (λ v. v .13
+          ∙ rows-turn px (four ps vs (L.Circle (a .c)) (a .w) (a .h)) (a .w) (a .a) (a .b) (l .j) (l .o) (now (a .buf)) (l .buf) _ (row px (a .w) (l .j))
+          (l .inv .2) (omega arith) (l .inv .1) (s .pre .4 .room) (l .inv .0) refl (v .4 .ensures .0))
+          (c .if1 .came),
       omega (arith, times-more (4 * a .w) (a .a) (l .j) (l .inv .2)),
       omega arith,
       omega arith,
-      omega arith,
-      omega arith,
-      omega arith,
+      ⊎-elim (λ v. omega (arith, ap length (v .7))) (λ v. omega (arith, ap length (v .13))) (c .if1 .came),
+      ⊎-elim (λ v. omega (arith, ap length (v .5))) (λ v. omega (arith, ap length (v .11))) (c .if1 .came),
+      ⊎-elim (λ v. omega (arith, ap length (v .6))) (λ v. omega (arith, ap length (v .12))) (c .if1 .came),
+      ⊎-elim (λ v f. absurd (unset (c .if1 .follows) (v .8) f)) (λ v f. record { row = l .j; next = refl; turn = rw (v .11, v .12) (v .4 .ensures .1) }) (c .if1 .came),
+      ⊎-elim (λ v f. absurd (unset (c .if1 .both) (v .9) f)) (λ v f. let k = v .4 .ensures .2 (rw (v .15) at f) in record { row = k .row; next = omega (arith, k .next); turn = rw (v .11, v .12) (k .turn) }) (c .if1 .came),
     )
 
 same-length : tie.Need-same-length Inv-loop μ-loop
@@ -95,6 +127,10 @@ draw-rows-spec =
     μ-loop
     mul-n
     loop-holds
+    mirrored-requires
+    sub-copy-row
+    mul-copy-row
+    copy-row-requires
     draw-turn-requires
     add-o
     add-j

@@ -52,8 +52,8 @@ draw-rows-requires : tie.Need-draw-rows-requires
 draw-rows-requires c κs =
     let s = c .before .before .before .before .before .before .before .before .before .before .before .before .before .before .before .before .before .before .before .before .before .before .before in
     let g = s .pre .0 in (
-      record { lent = g .lent; table = c .before .before .before .before .before .before .before .before .before .before .before .before .before .fill .ensures .0; near = g .near; box = g .box; columns = c .before .before .before .before .before .before .before .before .fill-squares .ensures; room = omega (arith, g .box .width) },
-      omega (arith, g .box .width),
+      record { lent = g .lent; table = c .before .before .before .before .before .before .before .before .before .before .before .before .before .fill .ensures .0; range = omega (arith, s .pre .1, c .before .before .before .before .before .before .before .before .before .before .before .before .before .fill .ensures .1); near = g .near; box = g .box; columns = c .before .before .before .before .before .before .before .before .fill-squares .ensures .0; room = omega (arith, g .box .width) },
+      c .before .before .before .before .before .before .before .before .fill-squares .ensures .1,
       omega (arith, g .box .width, full-p (c .before .before .before .before .before .before .before .before .before .before .before .before .before .before .before .before)),
       omega (arith, g .box .width, full-q (c .before .before .before .before .before .before .before .before .before .before .before .before .before .before .before)),
       g .strip,

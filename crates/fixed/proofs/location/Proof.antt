@@ -5,31 +5,22 @@ use borrow.Author.Needs.{needs}
 use Rattle.fixed.proofs.location.Statement.{statement}
 use Rattle.fixed.proofs.location.Tie as tie
 
-mul-e : tie.Need-mul-e
-mul-e c = let s = c .before in omega (arith, s .pre .0 .fits (s .args .i) (s .pre .1))
-
-add-e : tie.Need-add-e
-add-e c = let s = c .before .before in omega (arith, s .pre .0 .fits (s .args .i) (s .pre .1))
-
-mul-e-2 : tie.Need-mul-e-2
-mul-e-2 c = let s = c .before .before .before in omega (arith, s .pre .0 .fits (s .args .i) (s .pre .1))
-
-sub-e : tie.Need-sub-e
-sub-e c = let s = c .before .before .before in omega (arith, s .pre .0 .fits (s .args .i) (s .pre .1))
+place-requires : tie.Need-place-requires
+place-requires c κs = c .pre .0 .fits (c .args .i) (c .pre .1)
 
 returns : tie.Need-returns
 returns c =
-    let s = c .before .before .before .before in
+    let s = c .before .before in
     let g = s .args in
     let f = s .pre .0 in
-    place-whole (g .v) (g .w) (g .h) (g .i) (g .j) (f .box) (s .pre .1) (f .row) _ (f .bounded) (f .place (g .i) (s .pre .1)) (c .if1 .taken)
+    rw (c .before .place .ensures) (place-whole (g .v) (g .w) (g .h) (g .i) (g .j) (f .box) (s .pre .1) (f .row) _ (f .bounded) (f .place (g .i) (s .pre .1)) (rw (c .before .place .ensures) at (c .if1 .taken)))
 
 cast-location : tie.Need-cast-location
 cast-location c =
-    let s = c .before .before .before .before in
+    let s = c .before .before in
     let g = s .args in
     let f = s .pre .0 in
-    omega (arith, place-fits (g .v) (g .w) (g .h) (g .i) (g .j) (f .box) (s .pre .1) (f .row) _ (f .bounded) (f .place (g .i) (s .pre .1)))
+    omega (arith, c .before .place .ensures, place-fits (g .v) (g .w) (g .h) (g .i) (g .j) (f .box) (s .pre .1) (f .row) _ (f .bounded) (f .place (g .i) (s .pre .1)))
 
 location-requires : tie.Need-location-requires
 location-requires c κs = search needs
@@ -39,5 +30,4 @@ returns-2 c = search needs
 
 pub location-spec : {M : Type 1} → statement M
 location-spec =
-    tie.close
-    (tie.spec mul-e add-e mul-e-2 sub-e returns cast-location location-requires returns-2)
+    tie.close (tie.spec place-requires returns cast-location location-requires returns-2)

@@ -16,14 +16,14 @@ array-borrow-prefix-t c = search needs
 slice-aggregate-draw-with : tie.Need-slice-aggregate-draw-with
 slice-aggregate-draw-with c =
     let full : length (c .before .small .result) ≡ 16384 = search needs in
-    sym (length-take-le _ _ (omega (arith, c .before .before .before .before .before .pre .2)))
+    sym (length-take-le _ _ (omega (arith, c .before .before .before .before .before .pre .3)))
 
 draw-with-requires : tie.Need-draw-with-requires
 draw-with-requires c κs =
     let s = c .before .before .before .before .before .before in
     let full : length (c .before .before .small .result) ≡ 16384 = search needs in
-    let m : length (take (s .args .n) (c .before .before .small .result)) ≡ s .args .n = length-take-le _ _ (omega (arith, s .pre .2)) in
-    (s .pre .0, omega (arith, m, s .pre .1, s .pre .2), omega (arith, m, s .pre .2))
+    let m : length (take (s .args .n) (c .before .before .small .result)) ≡ s .args .n = length-take-le _ _ (omega (arith, s .pre .3)) in
+    (s .pre .0, s .pre .1, omega (arith, m, s .pre .2, s .pre .3), omega (arith, m, s .pre .3))
 
 same-length : tie.Need-same-length
 same-length c = search needs

@@ -2,10 +2,10 @@
 use mathlib.Core.Path.{_≡_, refl}
 use Prim.Native.Nat.{_-_, _≤_}
 use native.Mathlib.Omega.{arith}
-use lib.ListN.{length, take, drop, length-set}
+use lib.ListN.{length, take, drop}
 use denote.Ref.{now}
 use Rattle.picture.specs.Picture.{patched}
-use Rattle.picture.proofs.Patches.{patch-none, copy-step}
+use Rattle.picture.proofs.Patches.{patch-none, copies-step}
 use Rattle.picture.proofs.copy_row.Statement.{statement}
 use Rattle.picture.proofs.copy_row.Tie as tie
 
@@ -16,38 +16,42 @@ abbrev μ-loop : tie.MeasureT-loop
 μ-loop buf₀ from to n i₀ buf i = n - i
 
 loop-holds : tie.Need-loop-holds Inv-loop μ-loop
-loop-holds c = (patch-none (now (c .args .buf)) (c .args .to), omega arith, refl)
+loop-holds c = (patch-none (now (c .before .args .buf)) (c .before .args .to), omega arith, refl)
 
-add-buf : tie.Need-add-buf Inv-loop μ-loop
-add-buf c = omega arith
+sub-block : tie.Need-sub-block Inv-loop μ-loop
+sub-block c = omega arith
 
-slice-read-buf : tie.Need-slice-read-buf Inv-loop μ-loop
-slice-read-buf c = omega arith
+block-requires : tie.Need-block-requires Inv-loop μ-loop
+block-requires c κs = omega arith
 
-add-buf-2 : tie.Need-add-buf-2 Inv-loop μ-loop
-add-buf-2 c = omega arith
+add-copy-bytes : tie.Need-add-copy-bytes Inv-loop μ-loop
+add-copy-bytes c = omega arith
 
-slice-write-buf : tie.Need-slice-write-buf Inv-loop μ-loop
-slice-write-buf c = omega arith
+add-copy-bytes-2 : tie.Need-add-copy-bytes-2 Inv-loop μ-loop
+add-copy-bytes-2 c = omega arith
+
+copy-bytes-requires : tie.Need-copy-bytes-requires Inv-loop μ-loop
+copy-bytes-requires c κs = let k = c .before .block .ensures in (omega arith, omega arith)
 
 add-i : tie.Need-add-i Inv-loop μ-loop
-add-i c = omega arith
+add-i c = omega (arith, c .before .before .before .before .block .ensures)
 
 loop-less : tie.Need-loop-less Inv-loop μ-loop
-loop-less c = omega arith
+loop-less c = omega (arith, c .before .before .before .before .block .ensures)
 
 loop-again : tie.Need-loop-again Inv-loop μ-loop
 loop-again c =
-    let l = c .before .before .loop in
-    let a = c .before .before .before .args in
-    (copy-step (now (a .buf)) (l .buf) (a .from) (a .to) (l .i) 0 (omega arith) (omega arith) (l .inv .0), omega arith, simp length-set (omega arith))
+    let a = c .before .before .before .before .before .before .before .before .args in
+    let l = c .before .before .before .before .before .before .loop in
+    let k = c .before .before .before .before .block .ensures in
+    (copies-step (now (a .buf)) (l .buf) _ (a .from) (a .to) (l .i) (c .before .before .before .before .block .result) (omega arith) (omega arith) (l .inv .0) (c .before .before .copy-bytes .ensures), omega arith, omega arith)
 
 same-length : tie.Need-same-length Inv-loop μ-loop
 same-length c = c .before .loop .inv .2
 
 returns : tie.Need-returns Inv-loop μ-loop
 returns c =
-    let e : c .before .loop .i ≡ c .before .before .args .n = omega arith in
+    let e : c .before .loop .i ≡ c .before .before .before .args .n = omega arith in
     rw e at (c .before .loop .inv .0)
 
 pub copy-row-spec : {M : Type 1} → statement M
@@ -57,10 +61,11 @@ copy-row-spec =
     Inv-loop
     μ-loop
     loop-holds
-    add-buf
-    slice-read-buf
-    add-buf-2
-    slice-write-buf
+    sub-block
+    block-requires
+    add-copy-bytes
+    add-copy-bytes-2
+    copy-bytes-requires
     add-i
     loop-less
     loop-again

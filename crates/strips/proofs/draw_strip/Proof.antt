@@ -12,11 +12,11 @@ drawable s e = subst (λ (k : Line). Drawable (s .args .positions .now) (s .args
 enum-known-l : tie.Need-enum-known-l
 enum-known-l c = search needs
 
-draw-plain-requires : tie.Need-draw-plain-requires
-draw-plain-requires c κs = let s = c .before .before .before .before .before .before .before .before .before in (drawable s (c .before .before .before .before .l .given .1), s .pre .1, c .before .if1 .taken)
+draw-upright-requires : tie.Need-draw-upright-requires
+draw-upright-requires c κs = let s = c .before .before .before .before .before .before .before .before .before in (drawable s (c .before .before .before .before .l .given .1), s .pre .1, c .before .if1 .taken)
 
-draw-alike-requires : tie.Need-draw-alike-requires
-draw-alike-requires c κs = let s = c .before .before .before .before .before .before .before .before .before .before .before in (drawable s (c .before .before .before .before .before .before .l .given .1), s .pre .1, c .before .if2 .taken)
+draw-level-requires : tie.Need-draw-level-requires
+draw-level-requires c κs = let s = c .before .before .before .before .before .before .before .before .before .before .before in (drawable s (c .before .before .before .before .before .before .l .given .1), s .pre .1, c .before .if2 .taken)
 
 draw-straight-requires : tie.Need-draw-straight-requires
 draw-straight-requires c κs =
@@ -37,13 +37,13 @@ same-length : tie.Need-same-length
 same-length c = search needs
 
 returns : tie.Need-returns
-returns c = rw (c .before .before .before .before .before .before .before .l .given .1) (c .before .before .draw-plain .ensures)
+returns c = rw (c .before .before .before .before .before .before .before .l .given .1) (c .before .before .draw-upright .ensures)
 
 same-length-2 : tie.Need-same-length-2
 same-length-2 c = search needs
 
 returns-2 : tie.Need-returns-2
-returns-2 c = rw (c .before .before .before .before .before .before .before .before .before .l .given .1) (c .before .before .draw-alike .ensures)
+returns-2 c = rw (c .before .before .before .before .before .before .before .before .before .l .given .1) (c .before .before .draw-level .ensures)
 
 same-length-3 : tie.Need-same-length-3
 same-length-3 c = search needs
@@ -62,8 +62,8 @@ draw-strip-spec =
     tie.close
     (tie.spec
     enum-known-l
-    draw-plain-requires
-    draw-alike-requires
+    draw-upright-requires
+    draw-level-requires
     draw-straight-requires
     enum-known-l-2
     draw-circle-requires

@@ -1,21 +1,21 @@
 -- `table::fill_each` meets its contract. The invariant: the colors stand from `at` up to k. Assumes nothing.
 use mathlib.Core.Path.{_≡_, refl}
-use Prim.Native.Nat.{_-_, _≤_}
+use Prim.Native.Nat.{_+_, _-_, _*_, _≤_}
+use native.Mathlib.Nat.{mul-le-mul-right}
 use native.Mathlib.Omega.{arith}
 use lib.ListN.{length, length-set}
 use denote.Ref.{now}
-use borrow.Author.Needs.{needs}
 use Rattle.table.specs.Table.{entryAt, Stored}
 use Rattle.table.proofs.Stores.{stored-none, stored-more}
 use Rattle.table.proofs.fill_each.Statement.{statement}
 use Rattle.table.proofs.fill_each.Tie as tie
 
 abbrev Inv-loop : tie.InvT-loop
-Inv-loop t₀ at end positions values base k₀ t k =
-    Stored (entryAt positions values base) at k t₀ t × (at ≤ k) × (k ≤ end) × (length t ≡ length t₀)
+Inv-loop t₀ at end positions values base stride k₀ t k =
+    Stored (entryAt positions values base stride) at k t₀ t × (at ≤ k) × (k ≤ end) × (length t ≡ length t₀)
 
 abbrev μ-loop : tie.MeasureT-loop
-μ-loop t₀ at end positions values base k₀ t k = end - k
+μ-loop t₀ at end positions values base stride k₀ t k = end - k
 
 loop-holds : tie.Need-loop-holds Inv-loop μ-loop
 loop-holds c = (stored-none _ (c .before .before .before .args .at) (now (c .before .before .before .args .t)), omega arith, omega arith, refl)
@@ -23,11 +23,24 @@ loop-holds c = (stored-none _ (c .before .before .before .args .at) (now (c .bef
 cast-color-of : tie.Need-cast-color-of Inv-loop μ-loop
 cast-color-of c = omega arith
 
+-- an entry's location is before the table's end
+inside : (c : tie.In-loop Inv-loop μ-loop)
+    → c .before .before .before .before .before .args .base + c .before .loop .k * c .before .before .before .before .before .args .stride ≤ 33554432
+inside c =
+    let a = c .before .before .before .before .before .args in
+    let m : c .before .loop .k * a .stride ≤ length (now (a .t)) * a .stride = mul-le-mul-right (a .stride) (omega arith) in
+    omega arith
+
+mul-color-of : tie.Need-mul-color-of Inv-loop μ-loop
+mul-color-of c = omega (arith, inside c)
+
 add-color-of : tie.Need-add-color-of Inv-loop μ-loop
-add-color-of c = omega arith
+add-color-of c = omega (arith, inside c)
 
 color-of-requires : tie.Need-color-of-requires Inv-loop μ-loop
-color-of-requires c κs = search needs
+color-of-requires c κs =
+    let s = c .before .before .before .before .before in
+    (s .pre .0, omega (arith, inside c))
 
 mul-t : tie.Need-mul-t Inv-loop μ-loop
 mul-t c = omega arith
@@ -63,6 +76,7 @@ fill-each-spec =
     μ-loop
     loop-holds
     cast-color-of
+    mul-color-of
     add-color-of
     color-of-requires
     mul-t

@@ -1,6 +1,6 @@
 -- `table::fill_run` meets its contract. Assumes nothing.
 use mathlib.Core.Path.{_≡_, sym, _∙_}
-use Prim.Native.Nat.{ℕ, suc, _+_, _-_}
+use Prim.Native.Nat.{ℕ, suc, _+_, _-_, _*_, _≤_}
 use native.Mathlib.Omega.{arith}
 use lib.Dec.{leb}
 use lib.ListN.{length}
@@ -8,24 +8,32 @@ use denote.Ref.{now}
 use borrow.Author.Needs.{needs}
 use Rattle.color.proofs.Place.{last}
 use Rattle.table.proofs.Stores.{stored-same}
-use Rattle.table.proofs.Runs.{flat-first, flat-last}
+use Rattle.table.proofs.Runs.{run-low, flat-first, flat-last}
 use Rattle.table.proofs.fill_run.Statement.{statement}
 use Rattle.table.proofs.fill_run.Tie as tie
+
+low : (c : tie.Start) → c .args .base + c .args .at * c .args .stride ≤ 33554432
+low c =
+    let a = c .args in
+    run-low (now (a .positions)) (a .base) (a .stride) (a .at) (a .end) (length (now (a .t))) (c .pre .1)
 
 cast-s : tie.Need-cast-s
 cast-s c = search needs
 
+mul-s : tie.Need-mul-s
+mul-s c = omega (arith, low (c .before .before .before))
+
 add-s : tie.Need-add-s
-add-s c = search needs
+add-s c = omega (arith, low (c .before .before .before))
 
 add-last-up-to : tie.Need-add-last-up-to
-add-last-up-to c = search needs
+add-last-up-to c = omega (arith, low (c .before .before .before))
 
 last-up-to-requires : tie.Need-last-up-to-requires
 last-up-to-requires c κs = search needs
 
 color-of-requires : tie.Need-color-of-requires
-color-of-requires c κs = search needs
+color-of-requires c κs = (c .before .before .before .before .before .before .pre .0, omega (arith, low (c .before .before .before .before .before .before)))
 
 fill-flat-requires : tie.Need-fill-flat-requires
 fill-flat-requires c κs = search needs
@@ -39,12 +47,12 @@ returns c =
     let a = s .args in
     stored-same _ _ (a .at) (a .end) (now (a .t)) _
     (λ k l m. c .before .before .before .color-of .ensures
-    ∙ flat-first (now (a .positions)) (now (a .values)) (s .pre .0) (a .base) (a .at) (a .end) (length (now (a .t))) (s .pre .1)
+    ∙ flat-first (now (a .positions)) (now (a .values)) (s .pre .0) (a .base) (a .stride) (a .at) (a .end) (length (now (a .t))) (s .pre .1)
     (sym (c .before .before .before .before .before .if1 .taken) ∙ c .before .before .before .before .before .before .last-up-to .ensures) k l m)
     (c .before .before .fill-flat .ensures)
 
 color-of-requires-2 : tie.Need-color-of-requires-2
-color-of-requires-2 c κs = search needs
+color-of-requires-2 c κs = (c .before .before .before .before .before .before .before .pre .0, omega (arith, low (c .before .before .before .before .before .before .before)))
 
 fill-flat-requires-2 : tie.Need-fill-flat-requires-2
 fill-flat-requires-2 c κs = search needs
@@ -60,7 +68,7 @@ returns-2 c =
     let e : suc (place - 1) ≡ place = omega (arith, c .before .before .before .before .before .before .if1 .left) in
     stored-same _ _ (a .at) (a .end) (now (a .t)) _
     (λ k l m. c .before .before .before .color-of2 .ensures
-    ∙ flat-last (now (a .positions)) (now (a .values)) (s .pre .0) (a .base) (a .at) (a .end) (length (now (a .t))) (s .pre .1) (place - 1)
+    ∙ flat-last (now (a .positions)) (now (a .values)) (s .pre .0) (a .base) (a .stride) (a .at) (a .end) (length (now (a .t))) (s .pre .1) (place - 1)
     (e ∙ c .before .before .before .before .before .before .before .last-up-to .ensures) (e ∙ c .before .before .before .before .before .if2 .taken) k l m)
     (c .before .before .fill-flat2 .ensures)
 
@@ -73,7 +81,7 @@ fill-between-requires c κs =
     let place = c .before .before .before .last-up-to .result in
     let e : place - 1 + 1 ≡ place = omega (arith, c .before .before .if1 .left) in
     let f = c .before .before .before .last-up-to .ensures in
-    (s .pre, (e ∙ f, omega (arith, c .before .if2 .left, f, last (λ (p : ℕ). leb p (33554432 + (s .args .base + s .args .at))) 0 (now (s .args .positions)) .within)))
+    (s .pre, (e ∙ f, omega (arith, c .before .if2 .left, f, last (λ (p : ℕ). leb p (33554432 + (s .args .base + s .args .at * s .args .stride))) 0 (now (s .args .positions)) .within)))
 
 same-length-3 : tie.Need-same-length-3
 same-length-3 c = search needs
@@ -86,6 +94,7 @@ fill-run-spec =
     tie.close
     (tie.spec
     cast-s
+    mul-s
     add-s
     add-last-up-to
     last-up-to-requires

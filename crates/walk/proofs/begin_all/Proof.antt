@@ -29,7 +29,7 @@ add-begin-channel-2 : tie.Need-add-begin-channel-2
 add-begin-channel-2 c = search needs
 
 begin-channel-requires-2 : tie.Need-begin-channel-requires-2
-begin-channel-requires-2 c κs = search needs
+begin-channel-requires-2 c κs = let p = c .before .before .pre in (omega arith, omega arith, p .1, p .2)
 
 add-begin-channel-3 : tie.Need-add-begin-channel-3
 add-begin-channel-3 c = search needs
@@ -52,7 +52,7 @@ begin-channel-requires-4 c κs = let p = c .before .before .before .before .pre 
 returns : tie.Need-returns
 returns c =
     let a = c .before .before .before .before .before .args in
-    every (λ d. Walks (valuesAt (now (a .values)) (a .i) d) (valuesAt (now (a .values)) (a .i + 1) d) (a .g) (a .x) 262144 (walkOf _ d))
+    every (λ d. Walks (valuesAt (now (a .values)) (a .i) d) (valuesAt (now (a .values)) (a .i + 1) d) (a .g) (a .s) (a .x) 262144 (walkOf _ d))
     (c .before .before .before .begin-channel .ensures) (c .before .before .begin-channel2 .ensures) (c .before .begin-channel3 .ensures) (c .begin-channel4 .ensures)
 
 pub begin-all-spec : {M : Type 1} → statement M

@@ -7,7 +7,7 @@ use Rattle.walk.proofs.numerator.Statement.{statement}
 use Rattle.walk.proofs.numerator.Tie as tie
 
 small : (c : tie.Start) → (c .args .p * (c .args .g - c .args .x) ≤ 65025 * (c .args .g - c .args .x)) × (c .args .q * c .args .x ≤ 65025 * c .args .x)
-small c = parts (c .args .p) (c .args .q) (c .args .g) (c .args .x) (c .pre)
+small c = parts (c .args .p) (c .args .q) (c .args .g) (c .args .x) (c .pre .0) (c .pre .1) (c .pre .2)
 
 sub-result : tie.Need-sub-result
 sub-result c = search needs

@@ -1,0 +1,204 @@
+// Draws the rows of a picture along a level or an upright line: a color for each column or row, from a table with an entry to each pixel.
+use line::HeldVector;
+use line::Line;
+ghost use mathlib.Core.Path.{_≡_};
+ghost use Prim.Native.Nat.{_+_, _-_, _*_, _≤_, _<_};
+ghost use lib.ListN.{length};
+ghost use Rattle.picture.specs.Picture.{row, copies, strip, patched};
+ghost use Rattle.words.specs.Word.{wordBytes};
+ghost use Rattle.rows.specs.Pixel.{Drawable, Strip, lentPixel};
+ghost use Rattle.axisrows.specs.Axis.{placeOf, firstOf, byColumn, byRow};
+
+// ---- entries
+
+// The entry of pixel i of n, where entries start at the last pixel if the line goes back.
+fn place(i: usize, n: usize, back: bool) -> usize
+    requires { ⌜ i < n ⌝ }
+    ensures { λ r. ⌜ (r ≡ placeOf back n i) × (r < n) ⌝ }
+{
+    if back { n - 1 - i } else { i }
+}
+
+// The first of rows a up to b of h, counted from the side that the line starts at.
+fn first(a: usize, b: usize, h: usize, back: bool) -> usize
+    requires { ⌜ (a < b) × (b ≤ h) ⌝ }
+    ensures { λ r. ⌜ (r ≡ firstOf back h a b) × (r ≤ h) ⌝ }
+{
+    if back { h - b } else { a }
+}
+
+// An entry for each pixel of the largest box's side.
+fn entries() -> [u32; 2048] {
+    [0u32; 2048]
+}
+
+// ---- a level line: every row is the same
+
+// The bytes of the largest box's row.
+fn row_bytes() -> [u8; 8192] {
+    [0u8; 8192]
+}
+
+// Writes the entries' bytes, pixel by pixel of a row.
+fn write_row(t: &[u32], back: bool, w: usize, bytes: &mut [u8])
+    requires { ⌜ (w ≤ length (now t)) × (4 * w ≤ length (now bytes)) ⌝ }
+    ensures { λ _. ⌜ now (bytes .exit) ≡ patched (now (bytes .entry)) 0 (row (byColumn (now (t .entry)) back w) w 0) ⌝ }
+{
+    let mut i = 0;
+    let mut o = 0;
+    while i < w {
+        let k = place(i, w, back);
+        words::put_word(bytes, o, t[k]);
+        o += 4;
+        i += 1;
+    }
+}
+
+// Copies all of `bytes` to `at`.
+fn copy_in(buf: &mut [u8], at: usize, bytes: &[u8])
+    requires { ⌜ at + length (now bytes) ≤ length (now buf) ⌝ }
+    ensures { λ _. ⌜ now (buf .exit) ≡ patched (now (buf .entry)) at (now (bytes .entry)) ⌝ }
+{
+    let mut i = 0;
+    while i < bytes.len() {
+        buf[at + i] = bytes[i];
+        i += 1;
+    }
+}
+
+// Copies all of `bytes` n times from the buffer's start on.
+fn copy_times(buf: &mut [u8], bytes: &[u8], n: usize)
+    requires { ⌜ length (now bytes) * n ≤ length (now buf) ⌝ }
+    ensures { λ _. ⌜ now (buf .exit) ≡ patched (now (buf .entry)) 0 (copies n (now (bytes .entry))) ⌝ }
+{
+    let mut j = 0;
+    let mut o = 0;
+    while j < n {
+        copy_in(buf, o, bytes);
+        o += bytes.len();
+        j += 1;
+    }
+}
+
+// Draws rows a up to b with a table for the columns and bytes for a row.
+fn level_with(
+    t: &mut [u32],
+    bytes: &mut [u8],
+    positions: &[u32],
+    values: &[u32],
+    v: HeldVector,
+    w: usize,
+    h: usize,
+    a: usize,
+    b: usize,
+    buf: &mut [u8],
+)
+    requires { ⌜ (length (now t) ≡ w) × (length (now bytes) ≡ 4 * w) × Drawable (now positions) (now values) (Line.Straight v) w h × Strip w h a b (length (now buf)) × (v .y ≡ 0) ⌝ }
+    ensures { λ _. ⌜ now (buf .exit) ≡ patched (now (buf .entry)) 0 (strip (lentPixel (now (positions .entry)) (now (values .entry)) (Line.Straight v) w h) w a b) ⌝ }
+{
+    table::fill_spaced(t, positions, values, 32, 64);
+    write_row(t, v.left, w, bytes);
+    copy_times(buf, bytes, b - a);
+}
+
+// Draws rows a up to b where the line is level, from the buffer's start on.
+pub fn draw_level(
+    positions: &[u32],
+    values: &[u32],
+    v: HeldVector,
+    w: usize,
+    h: usize,
+    a: usize,
+    b: usize,
+    buf: &mut [u8],
+)
+    requires { ⌜ Drawable (now positions) (now values) (Line.Straight v) w h × Strip w h a b (length (now buf)) × (v .y ≡ 0) ⌝ }
+    ensures { λ _. ⌜ now (buf .exit) ≡ patched (now (buf .entry)) 0 (strip (lentPixel (now (positions .entry)) (now (values .entry)) (Line.Straight v) w h) w a b) ⌝ }
+{
+    let mut t = entries();
+    let mut bytes = row_bytes();
+    let n = 4 * w;
+    level_with(
+        &mut t[..w],
+        &mut bytes[..n],
+        positions,
+        values,
+        v,
+        w,
+        h,
+        a,
+        b,
+        buf,
+    );
+}
+
+// ---- an upright line: every row is one pixel over and over
+
+// Writes a word n times from `at` on.
+fn fill_words(buf: &mut [u8], at: usize, n: usize, c: u32)
+    requires { ⌜ at + 4 * n ≤ length (now buf) ⌝ }
+    ensures { λ _. ⌜ now (buf .exit) ≡ patched (now (buf .entry)) at (copies n (wordBytes c)) ⌝ }
+{
+    let mut i = 0;
+    let mut o = at;
+    while i < n {
+        words::put_word(buf, o, c);
+        o += 4;
+        i += 1;
+    }
+}
+
+// Draws rows a up to b, each with its entry.
+fn draw_entries(t: &[u32], back: bool, w: usize, a: usize, b: usize, buf: &mut [u8])
+    requires { ⌜ (a ≤ b) × (b - a ≤ length (now t)) × (w ≤ 2048) × (4 * w * (b - a) ≤ length (now buf)) ⌝ }
+    ensures { λ _. ⌜ now (buf .exit) ≡ patched (now (buf .entry)) 0 (strip (byRow (now (t .entry)) back a b) w a b) ⌝ }
+{
+    let n = 4 * w;
+    let mut j = a;
+    let mut o = 0;
+    while j < b {
+        let k = place(j - a, b - a, back);
+        fill_words(buf, o, w, t[k]);
+        o += n;
+        j += 1;
+    }
+}
+
+// Draws rows a up to b with a table for these rows.
+fn upright_with(
+    t: &mut [u32],
+    positions: &[u32],
+    values: &[u32],
+    v: HeldVector,
+    w: usize,
+    h: usize,
+    a: usize,
+    b: usize,
+    buf: &mut [u8],
+)
+    requires { ⌜ (length (now t) ≡ b - a) × Drawable (now positions) (now values) (Line.Straight v) w h × Strip w h a b (length (now buf)) × (v .x ≡ 0) ⌝ }
+    ensures { λ _. ⌜ now (buf .exit) ≡ patched (now (buf .entry)) 0 (strip (lentPixel (now (positions .entry)) (now (values .entry)) (Line.Straight v) w h) w a b) ⌝ }
+{
+    let base = 32 + 64 * (first(a, b, h, v.up) as u32);
+    table::fill_spaced(t, positions, values, base, 64);
+    draw_entries(t, v.up, w, a, b, buf);
+}
+
+// Draws rows a up to b where the line is upright, from the buffer's start on.
+pub fn draw_upright(
+    positions: &[u32],
+    values: &[u32],
+    v: HeldVector,
+    w: usize,
+    h: usize,
+    a: usize,
+    b: usize,
+    buf: &mut [u8],
+)
+    requires { ⌜ Drawable (now positions) (now values) (Line.Straight v) w h × Strip w h a b (length (now buf)) × (v .x ≡ 0) ⌝ }
+    ensures { λ _. ⌜ now (buf .exit) ≡ patched (now (buf .entry)) 0 (strip (lentPixel (now (positions .entry)) (now (values .entry)) (Line.Straight v) w h) w a b) ⌝ }
+{
+    let mut t = entries();
+    let n = b - a;
+    upright_with(&mut t[..n], positions, values, v, w, h, a, b, buf);
+}

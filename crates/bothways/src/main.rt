@@ -1,0 +1,197 @@
+// Draws random pictures both ways, by the fast code and by the simple loop, and compares every byte. The two have one contract, so this is a test of
+// what the compiler made of them. The numbers come from fixed seeds, so every run draws the same pictures.
+use gradient::Gradient;
+use line::Line;
+use stops::PlacedStops;
+use tally::Tally;
+ghost use Prim.Native.Nat.{_<_};
+ghost use lib.ListN.{length};
+ghost use Rattle.gradient.specs.Check.{Accepted};
+ghost use Rattle.line.specs.Box.{Box};
+ghost use Rattle.color.specs.Arrays.{Holdable};
+ghost use Rattle.rows.specs.Pixel.{Placed, Drawable, Strip};
+
+// ---- drawing both ways
+
+fn draw_both(
+    positions: &[u32],
+    values: &[u32],
+    l: Line,
+    w: usize,
+    h: usize,
+    a: usize,
+    b: usize,
+    fast: &mut [u8],
+    plain: &mut [u8],
+)
+    requires { ⌜ Drawable (now positions) (now values) l w h × Strip w h a b (length (now fast)) × Strip w h a b (length (now plain)) ⌝ }
+{
+    strips::draw_strip(positions, values, l, w, h, a, b, fast);
+    rows::draw_each(positions, values, l, w, h, a, b, plain);
+}
+
+fn draw_stops(
+    l: Line,
+    p: PlacedStops,
+    w: usize,
+    h: usize,
+    a: usize,
+    b: usize,
+    fast: &mut [u8],
+    plain: &mut [u8],
+)
+    requires { ⌜ Placed l w h × Holdable p × (0 < p .count) × Strip w h a b (length (now fast)) × Strip w h a b (length (now plain)) ⌝ }
+{
+    let positions = color::positions_of(p);
+    let values = color::values_of(p);
+    let n = p.count as usize;
+    let m = 4 * n;
+    draw_both(&positions[..n], &values[..m], l, w, h, a, b, fast, plain);
+}
+
+fn draw_gradient(
+    g: Gradient,
+    w: usize,
+    h: usize,
+    a: usize,
+    b: usize,
+    fast: &mut [u8],
+    plain: &mut [u8],
+)
+    requires { ⌜ Box w h × Accepted g × Strip w h a b (length (now fast)) × Strip w h a b (length (now plain)) ⌝ }
+{
+    let shape = g.shape;
+    let l = line::line_of(shape, w, h);
+    let p = placing::place_in_box(g, w, h);
+    draw_stops(l, p, w, h, a, b, fast, plain);
+}
+
+// Draws rows a up to b into both buffers, and compares all of their bytes.
+fn compare(
+    g: Gradient,
+    w: usize,
+    h: usize,
+    a: usize,
+    b: usize,
+    fast: &mut [u8],
+    plain: &mut [u8],
+) -> Tally
+    requires { ⌜ Box w h × Accepted g × Strip w h a b (length (now fast)) × Strip w h a b (length (now plain)) ⌝ }
+{
+    tally::fill(fast);
+    tally::fill(plain);
+    draw_gradient(g, w, h, a, b, fast, plain);
+    let part = if b - a < h { 1 } else { 0 };
+    let n = tally::differing(fast, plain);
+    Tally {
+        pictures: 1,
+        parts: part,
+        pixels: (w * (b - a)) as u64,
+        different: n,
+        refused: 0,
+    }
+}
+
+// Rows a up to b, if they are rows of the box and the buffers hold them.
+fn try_rows(
+    g: Gradient,
+    w: usize,
+    h: usize,
+    a: usize,
+    b: usize,
+    fast: &mut [u8],
+    plain: &mut [u8],
+) -> Tally
+    requires { ⌜ Box w h × Accepted g ⌝ }
+{
+    if b <= a || h < b {
+        return tally::refusal();
+    }
+    let n = 4 * w * (b - a);
+    if fast.len() < n || plain.len() < n {
+        return tally::refusal();
+    }
+    compare(g, w, h, a, b, fast, plain)
+}
+
+// One picture of a kind of shape in a sort of box.
+fn try_picture(kind: u32, sort: u32, seed: u32, fast: &mut [u8], plain: &mut [u8]) -> Tally {
+    let g = chance::gradient_of(kind, seed);
+    let s = chance::area_of(sort, seed);
+    let w = s.width;
+    let h = s.height;
+    if !placing::box_in(w, h) {
+        return tally::refusal();
+    }
+    if gradient::check(g) != 0 {
+        return tally::refusal();
+    }
+    let k = chance::rows_of(seed, w, h);
+    let a = k.first;
+    let b = k.end;
+    try_rows(g, w, h, a, b, fast, plain)
+}
+
+// ---- the report
+
+// Draws n pictures of a kind of shape, or of each kind in turn if it is 10.
+fn draw_many(kind: u32, sort: u32, n: u32, fast: &mut [u8], plain: &mut [u8]) -> Tally {
+    let seed = chance::seed_of(kind, sort);
+    let mut t = tally::none();
+    let mut k: u32 = 0;
+    while k < n {
+        let shape = if kind == 10 { k % 10 } else { kind };
+        let one = try_picture(shape, sort, chance::seed_of(seed, k), fast, plain);
+        t = tally::sum(t, one);
+        k += 1;
+    }
+    t
+}
+
+fn report(kind: u32, sort: u32, n: u32, fast: &mut [u8], plain: &mut [u8]) -> Tally {
+    let t = draw_many(kind, sort, n, fast, plain);
+    tally::say_shape(kind);
+    tally::say_area(sort);
+    tally::say_tally(t);
+    t
+}
+
+fn draw_shapes(fast: &mut [u8], plain: &mut [u8]) -> Tally {
+    let mut t = tally::none();
+    let mut kind: u32 = 0;
+    while kind < 10 {
+        let one = report(kind, 0, 600, fast, plain);
+        t = tally::sum(t, one);
+        kind += 1;
+    }
+    t
+}
+
+fn draw_areas(fast: &mut [u8], plain: &mut [u8]) -> Tally {
+    let mut t = tally::none();
+    let mut sort: u32 = 1;
+    while sort < 14 {
+        let n = if sort < 9 { 300 } else { 60 };
+        let one = report(10, sort, n, fast, plain);
+        t = tally::sum(t, one);
+        sort += 1;
+    }
+    t
+}
+
+fn buffer() -> [u8; 262144] {
+    [0u8; 262144]
+}
+
+fn main() {
+    let mut fast = buffer();
+    let mut plain = buffer();
+    let shapes = draw_shapes(&mut fast, &mut plain);
+    let areas = draw_areas(&mut fast, &mut plain);
+    let all = tally::sum(shapes, areas);
+    tally::say(b"in all");
+    tally::say_tally(all);
+    tally::say(b"refused: ");
+    tally::say_number(all.refused);
+    tally::say(b"\n");
+}

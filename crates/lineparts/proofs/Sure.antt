@@ -1,0 +1,39 @@
+-- Places that are sure: where each stands in the table, and that it is the location.
+-- Assumes nothing.
+use mathlib.Core.Path.{_≡_, sym, _∙_}
+use Prim.Native.Nat.{ℕ, _+_, _-_, _*_, _/_, _%_, _≤_, _<_}
+use native.Mathlib.Nat.{add-zero}
+use native.Mathlib.Omega.{arith}
+use Rattle.line.specs.Location.{locationBy}
+use Rattle.line.specs.Held.{ruleIn}
+use Rattle.line.specs.declared.HeldVector.{HeldVector}
+use Rattle.line.specs.declared.Line.the-variants as L
+use Rattle.fixed.specs.Steps.{Reaches, placeOf, Follows}
+use Rattle.fixed.specs.declared.RowLine.{RowLine}
+use Rattle.fixed.proofs.Places.{place-whole}
+use Rattle.lineparts.specs.Sure.{AllSure}
+
+-- s takes a place to the next
+abbrev pub Steps : RowLine → ℕ → Type 0
+Steps r s = (i k b : ℕ) → Reaches r i → Reaches r (i + k) → b ≤ placeOf r i → b ≤ placeOf r (i + k)
+    → (placeOf r i - b + s * k) % 18446744073709551616 ≡ placeOf r (i + k) - b
+
+module _ (r : RowLine) (i n base size s : ℕ) (some : 0 < n) (a : AllSure r i n base size) (steps : Steps r s) where
+  first : Reaches r i
+  first = rw add-zero at (a .fits 0 some)
+
+  pub from-base : base * 33554432 ≤ placeOf r i
+  from-base = omega (arith, rw add-zero at (a .sure 0 some .inside .low))
+
+  module _ (k : ℕ) (h : k < n) where
+    entry-place : (placeOf r i - base * 33554432 + s * k) % 18446744073709551616 ≡ placeOf r (i + k) - base * 33554432
+    entry-place = steps i k (base * 33554432) first (a .fits k h) from-base (omega (arith, a .sure k h .inside .low))
+
+    pub entry-within : (placeOf r i - base * 33554432 + s * k) % 18446744073709551616 / 33554432 < size
+    entry-within = rw entry-place (omega (arith, a .sure k h .inside .low, a .sure k h .inside .high))
+
+    pub entry-location : (v : HeldVector) (w g j : ℕ) → Follows r v w g j → i + n ≤ w
+        → base + (placeOf r i - base * 33554432 + s * k) % 18446744073709551616 / 33554432 ≡ locationBy (ruleIn (L.Straight v) w g) (i + k) j
+    entry-location v w g j f l =
+        let e : base + (placeOf r (i + k) - base * 33554432) / 33554432 ≡ placeOf r (i + k) / 33554432 = omega (arith, a .sure k h .inside .low) in
+        rw entry-place (e ∙ place-whole v w g (i + k) j (f .box) (omega arith) (f .row) _ (f .bounded) (f .place (i + k) (omega arith)) (a .sure k h .told))
