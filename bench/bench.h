@@ -11,9 +11,9 @@
 extern "C" {
 #endif
 
-#define COUNT(array) (sizeof(array) / sizeof *(array))
-
-enum { STOPS_MAX = 16, TEXT_ROOM = 512, DIRECTIONS = 4, READINGS = 4 };
+enum { STOPS_MAX = 16, TEXT_ROOM = 512, READINGS = 4 };
+enum { TO_RIGHT, TO_BOTTOM, BY_ANGLE, TO_CORNER, CIRCLE, CIRCLE_ASIDE, DIRECTIONS };
+enum { SMALL, MIDDLE, STRIP, WHOLE, BOXES };
 enum { COUNT_WIDTH = 640, COUNT_HEIGHT = 480 }; /* the box in which instructions are counted */
 
 struct color {
@@ -35,6 +35,10 @@ struct picture {
 };
 
 /* cases.c */
+struct box {
+    size_t width, height;
+};
+extern const struct box boxes[BOXES];
 extern const char *const directions[DIRECTIONS];
 struct picture make_picture(size_t width, size_t height, int direction, int count, bool opaque);
 
@@ -76,11 +80,25 @@ struct line {
     struct difference off[PAINTERS];
 };
 
+/* ns per pixel in one box, by direction, number of stops and painter; 0 without the painter. */
+struct times {
+    double of[DIRECTIONS][STOPS_MAX + 1][PAINTERS];
+};
+
 /* Instructions of one call, as counted before; 0 if they were not. */
 struct counts {
     long long draw[DIRECTIONS][STOPS_MAX + 1]; /* by direction and number of stops */
     long long read[READINGS];
 };
+
+/* goals.c: ratios of the library's times to the others', and to its own in the largest box. */
+enum { TO_QT, TO_CAIRO, TO_MEMSET, MIDDLE_TO_WHOLE, STRIP_TO_WHOLE, SMALL_TO_WHOLE, GOALS };
+struct goal {
+    double ratio; /* 0 without the painter */
+    double most;  /* that it should be; 0 for no goal */
+};
+struct goal make_goal(const struct times times[BOXES], int direction, int stops, int which);
+bool missed(struct goal goal);
 
 /* report.c: the table to stdout, the same as JSON to a file if there is one. */
 struct report {
@@ -94,6 +112,7 @@ void report_line(struct report *report, const struct line *line);
 void report_means(struct report *report, double allowed);
 void report_counts(struct report *report, const struct counts *counts);
 void report_readings(struct report *report, const double *ns, const struct counts *counts);
+void report_goals(struct report *report, const struct times times[BOXES]);
 
 #ifdef __cplusplus
 }

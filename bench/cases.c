@@ -10,7 +10,19 @@
 #define ANGLE 37.25
 #define PI 3.14159265358979323846
 
-const char *const directions[DIRECTIONS] = {"to right", "37.25deg", "to top right", "circle"};
+#define ASIDE_X 30.3 /* percent: the center is in no middle of a pixel and on no edge of one */
+#define ASIDE_Y 41.7
+
+const struct box boxes[BOXES] = {{64, 64}, {640, 480}, {2048, 64}, {2048, 2048}};
+
+const char *const directions[DIRECTIONS] = {
+    "to right", "to bottom", "37.25deg", "to top right", "circle", "circle aside",
+};
+
+static const char *const heads[DIRECTIONS] = {
+    "linear-gradient(to right",     "linear-gradient(to bottom", "linear-gradient(37.25deg",
+    "linear-gradient(to top right", "radial-gradient(circle",    "radial-gradient(circle at 30.3% 41.7%",
+};
 
 /* Steps of 14 to 44 levels from one stop to the next: steeper ones would make Qt's rounding along wide
  * rows, which grows from pixel to pixel, look like another picture. */
@@ -38,9 +50,8 @@ static void append(struct picture *p, const char *words) {
     p->text_length += length;
 }
 
-static void write_text(struct picture *p) {
-    append(p, p->circle ? "radial-gradient(" : "linear-gradient(");
-    append(p, p->direction);
+static void write_text(struct picture *p, const char *head) {
+    append(p, head);
     for (int k = 0; k < p->count; k++) {
         struct color c = p->stops[k];
         char word[16];
@@ -60,11 +71,28 @@ static void set_line(struct picture *p, double x, double y) {
     p->y1 = height / 2 + half * y;
 }
 
-static void set_circle(struct picture *p) {
+/* The center in percent of the box; the circle goes through the farthest corner. */
+static void set_circle(struct picture *p, double x, double y) {
+    double width = (double)p->width, height = (double)p->height;
     p->circle = true;
-    p->x0 = (double)p->width / 2;
-    p->y0 = (double)p->height / 2;
-    p->radius = hypot(p->x0, p->y0);
+    p->x0 = width * x / 100;
+    p->y0 = height * y / 100;
+    p->radius = hypot(fmax(p->x0, width - p->x0), fmax(p->y0, height - p->y0));
+}
+
+static void set_direction(struct picture *p, int direction) {
+    if (direction == TO_RIGHT)
+        set_line(p, 1, 0);
+    else if (direction == TO_BOTTOM)
+        set_line(p, 0, 1);
+    else if (direction == BY_ANGLE)
+        set_line(p, sin(ANGLE * PI / 180), -cos(ANGLE * PI / 180));
+    else if (direction == TO_CORNER)
+        set_line(p, (double)p->height, -(double)p->width);
+    else if (direction == CIRCLE)
+        set_circle(p, 50, 50);
+    else
+        set_circle(p, ASIDE_X, ASIDE_Y);
 }
 
 struct picture make_picture(size_t width, size_t height, int direction, int count, bool opaque) {
@@ -73,18 +101,11 @@ struct picture make_picture(size_t width, size_t height, int direction, int coun
                         .direction = directions[direction],
                         .count = count,
                         .opaque = opaque};
-    if (direction == 0)
-        set_line(&p, 1, 0);
-    else if (direction == 1)
-        set_line(&p, sin(ANGLE * PI / 180), -cos(ANGLE * PI / 180));
-    else if (direction == 2)
-        set_line(&p, (double)height, -(double)width);
-    else
-        set_circle(&p);
+    set_direction(&p, direction);
     for (int k = 0; k < count; k++) {
         uint32_t c = palette[k * (STOPS_MAX - 1) / (count - 1)];
         p.stops[k] = (struct color){(uint8_t)(c >> 16), (uint8_t)(c >> 8), (uint8_t)c, opaque ? 255 : 128};
     }
-    write_text(&p);
+    write_text(&p, heads[direction]);
     return p;
 }

@@ -192,5 +192,62 @@ void report_readings(struct report *report, const double *ns, const struct count
         json_figure(report, "instructions", (double)counts->read[k]);
         json(report, "}");
     }
+    json(report, "\n  ]");
+}
+
+static void column_goal(struct goal goal) {
+    column(8, goal.ratio);
+    if (goal.most > 0 && goal.ratio > 0)
+        printf("%s of %.1f", missed(goal) ? "!" : " ", goal.most);
+    else
+        printf("%8s", "");
+}
+
+static void json_goal(struct report *report, const char *name, struct goal goal) {
+    json(report, ", \"%s\": {", name);
+    json_figure(report, "ratio", goal.ratio);
+    json(report, ", ");
+    json_figure(report, "most", goal.most);
+    json(report, ", \"missed\": %s}", missed(goal) ? "true" : "false");
+}
+
+/* One line of the goals: how many of them are missed. */
+static int report_goal(struct report *report, const struct times times[BOXES], int direction, int stops) {
+    static const char *const names[GOALS] = {
+        "to qt",
+        "to cairo",
+        "to memset",
+        "640x480 to 2048x2048",
+        "2048x64 to 2048x2048",
+        "64x64 to 2048x2048",
+    };
+    int misses = 0;
+    printf("%-14s%5d", directions[direction], stops);
+    json_item(report);
+    json(report, "{\"direction\": \"%s\", \"stops\": %d", directions[direction], stops);
+    for (int which = 0; which < GOALS; which++) {
+        struct goal goal = make_goal(times, direction, stops, which);
+        column_goal(goal);
+        json_goal(report, names[which], goal);
+        misses += missed(goal);
+    }
+    printf("\n");
+    json(report, "}");
+    return misses;
+}
+
+void report_goals(struct report *report, const struct times times[BOXES]) {
+    int misses = 0;
+    json_list(report, "goals");
+    printf(
+        "\nGOALS: ratios of the library's times, each of the most that it should be; ! where it is more\n");
+    printf("%-19s%-48s%s\n", "", "    at 2048x2048, to the others", " ns per pixel, to its own at 2048x2048");
+    printf("%-14s%5s%8s%16s%16s", "direction", "stops", "Qt", "cairo", "memset");
+    printf("%16s%16s%16s\n", "640x480", "2048x64", "64x64");
+    for (int direction = 0; direction < DIRECTIONS; direction++) {
+        misses += report_goal(report, times, direction, 2);
+        misses += report_goal(report, times, direction, STOPS_MAX);
+    }
+    printf("missed: %d\n", misses);
     json(report, "\n  ]\n}\n");
 }

@@ -17,11 +17,6 @@
 
 enum { FULL_ROUNDS = 15, QUICK_ROUNDS = 3 };
 
-static const struct box {
-    size_t width, height;
-} boxes[] = {{64, 64}, {640, 480}, {2048, 64}, {2048, 2048}};
-static const struct box see_through = {640, 480};
-
 #ifdef WITH_CAIRO
 #define CAIRO_PAINTER &cairo_painter
 #else
@@ -105,7 +100,7 @@ static void check(struct line *line) {
     }
 }
 
-static void time_picture(struct report *report, const struct picture *p, int rounds) {
+static struct line time_picture(const struct picture *p, int rounds) {
     struct line line = {.picture = p};
     long batch[PAINTERS];
     for (int k = 0; k < PAINTERS; k++)
@@ -124,15 +119,19 @@ static void time_picture(struct report *report, const struct picture *p, int rou
             painters[k]->end();
         line.per_pixel[k] /= (double)(p->width * p->height);
     }
-    report_line(report, &line);
+    return line;
 }
 
-static void time_box(struct report *report, struct box box, bool opaque, int rounds) {
+static struct times time_box(struct report *report, struct box box, bool opaque, int rounds) {
+    static struct times times;
     for (int direction = 0; direction < DIRECTIONS; direction++)
         for (int stops = 2; stops <= STOPS_MAX; stops += STOPS_MAX - 2) {
             struct picture p = make_picture(box.width, box.height, direction, stops, opaque);
-            time_picture(report, &p, rounds);
+            struct line line = time_picture(&p, rounds);
+            report_line(report, &line);
+            memcpy(times.of[direction][stops], line.per_pixel, sizeof line.per_pixel);
         }
+    return times;
 }
 
 static const struct reading *being_read;
@@ -176,19 +175,21 @@ static struct counts load_counts(const char *path) {
 }
 
 static void time_all(struct report *report, bool quick, const char *counts_path) {
+    static struct times times[BOXES];
     int rounds = quick ? QUICK_ROUNDS : FULL_ROUNDS;
     struct counts counts = load_counts(counts_path);
     double ns[READINGS] = {0};
     report_machine(report, rounds);
     report_heading(report);
-    for (size_t k = 0; k < COUNT(boxes); k++)
-        time_box(report, boxes[k], true, rounds);
+    for (int k = 0; k < BOXES; k++)
+        times[k] = time_box(report, boxes[k], true, rounds);
     if (!quick)
-        time_box(report, see_through, false, rounds);
+        time_box(report, boxes[MIDDLE], false, rounds);
     report_means(report, MEAN_MAX);
     report_counts(report, &counts);
     time_readings(ns, rounds);
     report_readings(report, ns, &counts);
+    report_goals(report, times);
 }
 
 int main(int argc, char **argv) {
