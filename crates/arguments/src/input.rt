@@ -61,7 +61,7 @@ pub fn read_input(i: usize, buf: &mut [u8]) -> Input
     let mut space = io::buffer();
     let n = os::arg(i, &mut space);
     if os::errno() != 0 {
-        os::fail(b"RECIPE");
+        os::fail(b"TEXT");
         return Input::Unread;
     }
     let name = &space[..n];

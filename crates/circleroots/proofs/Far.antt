@@ -1,17 +1,15 @@
 -- Roots far from the center need no test: from those of the two rows before, the next one is among four numbers.
 -- Assumes nothing.
-use mathlib.Core.Path.{_≡_, sym, ap, _∙_}
+use mathlib.Core.Path.{_≡_, ap}
 use Prim.Native.Nat.{ℕ, _+_, _-_, _*_, _/_, _%_, _≤_, _<_}
 use native.Mathlib.Nat.{mul-le-mul}
 use native.Mathlib.Decide.{decLe}
 use native.Mathlib.Omega.{arith}
-use lib.IntN.{natAbs}
 use Rattle.numbers.specs.Held.{offset, unheld}
 use Rattle.numbers.specs.Fraction.{distance}
-use Rattle.numbers.proofs.Integers.{diff-of, diff-abs}
 use Rattle.root.proofs.Laws.{root-le}
 use Rattle.line.specs.Circle.{from}
-use Rattle.line.proofs.Circles.{from-held}
+use Rattle.circleroots.proofs.Sure.{from-is}
 use Rattle.circleroots.specs.Squares.{squareOf}
 
 -- p, q and g are roots or a guess; x, y and z are the numbers of three rows, whose second difference is 2·64²
@@ -72,9 +70,6 @@ away f g h a b = omega (arith, ap (λ (m : ℕ). m * m) a, ap (λ (m : ℕ). m *
 
 across : (f g h : ℕ) → f + g ≡ 64 → h ≡ g + 64 → f * f + h * h ≡ 2 * (g * g) + 8192
 across f g h a b = omega (arith, ap (λ (m : ℕ). f * m) a, ap (λ (m : ℕ). g * m) a, ap (λ (m : ℕ). m * m) b)
-
-from-is : (c m : ℕ) → from (unheld c) m ≡ distance (m + offset) c
-from-is c m = sym (from-held c m) ∙ ap natAbs (diff-of (m + offset) c) ∙ diff-abs (m + offset) c
 
 -- the second difference of the squares of rows, on either side of the center
 pub squares-bend : (c m l j : ℕ) → m + 1 ≡ l → l + 1 ≡ j → squareOf c m + squareOf c j ≡ 2 * squareOf c l + 8192

@@ -1,15 +1,17 @@
 -- Guesses that are tested in 32 bits alone. The root of the row before is near, so the number less the guess's square is far from wrapping at 2^32,
 -- and where it is at most twice the guess the guess is the root.
 -- Assumes nothing.
-use mathlib.Core.Path.{_≡_, ap}
+use mathlib.Core.Path.{_≡_, sym, ap, _∙_}
 use mathlib.Core.List.{List}
 use Prim.Native.Nat.{ℕ, _+_, _-_, _*_, _%_, _≤_, _<_}
 use native.Mathlib.Nat.{mul-le-mul}
 use native.Mathlib.Decide.{decLe}
 use native.Mathlib.Omega.{arith}
+use lib.IntN.{natAbs}
 use lib.ListN.{length, getD, set}
 use lib.Seq.{getD-set-same, getD-set-other}
 use Rattle.numbers.specs.Held.{offset, unheld}
+use Rattle.numbers.specs.Fraction.{distance}
 use Rattle.numbers.proofs.Integers.{diff-of, diff-abs}
 use Rattle.root.specs.Root.{IsRoot, rootOf}
 use Rattle.root.proofs.Laws.{root-le, root-is, root-eq, root-most}
@@ -21,17 +23,13 @@ use Rattle.line.proofs.Circles.{from-held}
 use Rattle.circleroots.specs.Squares.{squareOf, LowHalves, Known, Within, Close, Corrected, Passed}
 use Rattle.circleroots.proofs.Columns.{square-below}
 
+-- how far the held coordinate is from m, in counts
+pub from-is : (c m : ℕ) → from (unheld c) m ≡ distance (m + offset) c
+from-is c m = sym (from-held c m) ∙ ap natAbs (diff-of (m + offset) c) ∙ diff-abs (m + offset) c
+
 -- rows next to each other are at most 64 units nearer or farther
 pub from-next : (c m j : ℕ) → m + 1 ≡ j → (from (unheld c) (64 * m + 32) ≤ from (unheld c) (64 * j + 32) + 64) × (from (unheld c) (64 * j + 32) ≤ from (unheld c) (64 * m + 32) + 64)
-from-next c m j e =
-    rw (
-      ← from-held c (64 * m + 32),
-      ← from-held c (64 * j + 32),
-      diff-of (64 * m + 32 + offset) c,
-      diff-of (64 * j + 32 + offset) c,
-      diff-abs (64 * m + 32 + offset) c,
-      diff-abs (64 * j + 32 + offset) c,
-    ) (omega arith, omega arith)
+from-next c m j e = rw (from-is c (64 * m + 32), from-is c (64 * j + 32)) (omega arith, omega arith)
 
 -- l is the root of s + f², and b is near it: then b² plus at most 2b is s + g² where they agree in their low halves
 pub not-wrapped : (s f g l b t : ℕ) → f ≤ g + 64 → g ≤ f + 64 → l * l ≤ s + f * f → s + f * f < (l + 1) * (l + 1) → b ≤ l + 131 → l ≤ b + 128

@@ -43,7 +43,7 @@ pub fn mirrored(c: u32, a: usize, j: usize) -> usize
 // Of columns or rows a up to b the one that a coordinate of the center lies in, or the nearest.
 pub fn nearest(c: u32, a: usize, b: usize) -> usize
     requires { ⌜ (a < b) × (b ≤ 2048) ⌝ }
-    ensures { λ r. ⌜ (r < b) × ((i : ℕ) → a ≤ i → i < b → squareOf c r ≤ squareOf c i) ⌝ }
+    ensures { λ r. ⌜ (r < b) × ((i : ℕ) → a ≤ i → i < b → squareOf c r ≤ squareOf c i) × (a ≤ r) ⌝ }
 {
     if c <= 33554432 {
         return a;
@@ -53,13 +53,6 @@ pub fn nearest(c: u32, a: usize, b: usize) -> usize
         return a;
     }
     if k < b { k } else { b - 1 }
-}
-
-// The low 32 bits.
-fn low_half(x: u64) -> u32
-    ensures { λ r. ⌜ r ≡ x % 4294967296 ⌝ }
-{
-    (x % 4294967296) as u32
 }
 
 // The squares of w columns, and their low halves.
@@ -72,19 +65,9 @@ pub fn fill_squares(squares: &mut [u64], low: &mut [u32], w: usize, c: HeldCente
     while i < w {
         let s = square(x, i);
         squares[i] = s;
-        low[i] = low_half(s);
+        low[i] = numbers::low_half(s);
         i += 1;
     }
-}
-
-// One less than the root after the two before it, were all as far apart.
-fn ahead(before: u32, last: u32) -> u32
-    ensures { λ r. ⌜ (r + before + 1) % 4294967296 ≡ 2 * last % 4294967296 ⌝ }
-{
-    std::num::wrapping_add_u32(
-        last,
-        std::num::wrapping_sub_u32(last, std::num::wrapping_add_u32(before, 1)),
-    )
 }
 
 // 1 where x is above y, else 0.
@@ -115,7 +98,7 @@ fn corrected(g: u32, low: u32) -> u32
 {
     let q = g % 134217728;
     let b = q as u64;
-    let over = std::num::wrapping_sub_u32(low, low_half(b * b)) % 2147483648;
+    let over = std::num::wrapping_sub_u32(low, numbers::low_half(b * b)) % 2147483648;
     let one = 2 * q;
     let two = 2 * one + 3;
     let three = one + two + 5;
@@ -125,7 +108,7 @@ fn corrected(g: u32, low: u32) -> u32
 // A guess at a root from those of the two rows before, or at one of the three numbers before it. Near the center the differences from row to row
 // change faster.
 fn guess(before: u32, last: u32, low: u32, near: bool) -> u32 {
-    let g = ahead(before, last);
+    let g = root::ahead(before, last);
     if near { corrected(g, low) } else { g }
 }
 
@@ -136,7 +119,7 @@ fn failures(low: u32, g: u32, last: u32, base: u32, n: u32) -> u32
 {
     let q = g % 134217728;
     let b = q as u64;
-    let over = std::num::wrapping_sub_u32(low, low_half(b * b));
+    let over = std::num::wrapping_sub_u32(low, numbers::low_half(b * b));
     let off = std::num::wrapping_sub_u32(std::num::wrapping_add_u32(g, 128), last);
     above(over, 8 * q + 15) + above(off, 256) + outside(g, base, n)
 }
@@ -167,7 +150,7 @@ fn guess_row(
     let row = square(c.y, j);
     // within 24 px of the center
     let near = row < 2359296;
-    let r = low_half(row);
+    let r = numbers::low_half(row);
     let m = inner(n);
     let mut failed: u32 = 0;
     let mut i = 0;
@@ -178,10 +161,12 @@ fn guess_row(
         failed += failures(l, g, last[i], base, m);
         i += 1;
     }
+    // the tests tell only of roots below 2^22
     if 4194304 < base + n { 1 } else { failed }
 }
 
-// The same far from the center, where no corrected guess made from the right roots is wrong. The least and the greatest roots of the row are those of
+// The same 66 px or more from the center, 17,842,176 being the square of that in units: there no corrected guess made from the right roots is
+// wrong. The least and the greatest roots of the row are those of
 // the nearest column and of the first or the last.
 fn far_row(
     before: &mut [u32],
@@ -196,11 +181,11 @@ fn far_row(
     requires { ⌜ Guessable c w j (now low) (length (now before)) (length (now last)) × (base + n ≤ 33554432) × ((i : ℕ) → i < w → 17842176 ≤ squareOf (c .x) i + squareOf (c .y) j) ⌝ }
     ensures { λ r. ⌜ (r ≡ 0 → KnownBefore c w 2 j (now (before .entry)) → KnownBefore c w 1 j (now (last .entry)) → Known c w j (now (before .exit)) × Within base n w (now (before .exit))) ⌝ }
 {
-    let r = low_half(square(c.y, j));
+    let r = numbers::low_half(square(c.y, j));
     let mut i = 0;
     while i < w {
         let l = std::num::wrapping_add_u32(low[i], r);
-        before[i] = corrected(ahead(before[i], last[i]), l);
+        before[i] = corrected(root::ahead(before[i], last[i]), l);
         i += 1;
     }
     let least = nearest(c.x, 0, w);
@@ -239,7 +224,7 @@ pub fn circle_root(d: u64, guess: u32, before: u32, last: u32) -> u64
     if std::num::wrapping_sub_u64(d, b * b) <= 2 * b {
         return b;
     }
-    root::root_near(1, d, ahead(before, last))
+    root::root_near(1, d, root::ahead(before, last))
 }
 
 // The location of pixel (i, j), in units, from the squares of the columns and that of its row. The guess and the locations of the two pixels

@@ -18,7 +18,7 @@ use Rattle.line.proofs.Lines.{square-is, odd-below, weighted-le}
 use Rattle.line.proofs.Bounds.{sound-scale}
 use Rattle.fixed.specs.declared.Steps.{Steps}
 use Rattle.fixed.specs.declared.RowLine.{RowLine}
-use Rattle.fixed.specs.Steps.{Within, Steady, reachOf, placeOf, Reaches, Follows, Told, Inside, Sure}
+use Rattle.fixed.specs.Steps.{Within, Steady, reachOf, placeOf, Reaches, Advances, Follows, Told, Inside, Sure}
 
 square-order : (x y : ℕ) → x * x ≤ y * y → x ≤ y
 square-order x y h = root-le 1 (y * y) x y (omega arith) (omega arith)
@@ -229,12 +229,11 @@ module _ (low step : ℕ) where
 -- n places from pixel i on, where the first and the last are inside
 pub all-sure : (r : RowLine) (i n base size e s l m : ℕ) → 0 < n → ((k : ℕ) → k < n → Reaches r (i + k)) → e ≡ placeOf r i → Inside base size (placeOf r i)
     → Inside base size (placeOf r (i + (n - 1)))
-    → ((k b : ℕ) → Reaches r i → Reaches r (i + k) → b ≤ placeOf r i → b ≤ placeOf r (i + k) → (placeOf r i - b + s * k) % 18446744073709551616 ≡ placeOf r (i + k) - b)
-    → l ≡ e % 4294967296 → m ≡ s % 4294967296 → ((k : ℕ) → k < n → Told (l + m * k)) → (k : ℕ) → k < n → Sure base size (placeOf r (i + k))
+    → Advances r s → l ≡ e % 4294967296 → m ≡ s % 4294967296 → ((k : ℕ) → k < n → Told (l + m * k)) → (k : ℕ) → k < n → Sure base size (placeOf r (i + k))
 all-sure r i n base size e s l m some fits ee first last steps el em told k h =
     let p : Reaches r i = rw add-zero at (fits 0 some) in
     let q : Reaches r (i + k) = fits k h in
     let t : Told (e % 4294967296 + s % 4294967296 * k) = rw (el, em) at (told k h) in
-    let f : (e + s * k) % 18446744073709551616 ≡ placeOf r (i + k) = rw ee (simp sub-zero at (steps k 0 p q (omega arith) (omega arith))) in
+    let f : (e + s * k) % 18446744073709551616 ≡ placeOf r (i + k) = rw ee (simp sub-zero at (steps i k 0 p q (omega arith) (omega arith))) in
     let d : placeOf r (i + k) % 33554432 ≡ (e % 4294967296 + s % 4294967296 * k) % 33554432 = ap (λ (z : ℕ). z % 33554432) (sym f) ∙ low-digits e s k in
     record { told = rw d t; inside = inside-between r i k (n - 1) base size (omega arith) p q (fits (n - 1) (omega arith)) first last }

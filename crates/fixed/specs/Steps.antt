@@ -1,5 +1,6 @@
 -- Numbers in fixed point, with 25 binary digits after the point, and the steps along a held vector.
 -- Assumes nothing.
+use mathlib.Core.Path.{_≡_}
 use Prim.Native.Nat.{ℕ, _+_, _*_, _-_, _/_, _%_, _≤_, _<_}
 use Rattle.line.specs.Box.{Box}
 use Rattle.line.specs.Location.{squared, norm}
@@ -31,6 +32,11 @@ placeOf r i = r .first + r .forth * i - r .back * i
 pub record Reaches (r : RowLine) (i : ℕ) : Type 0 where
   pub sum : r .first + r .forth * i < 18446744073709551616
   pub room : r .back * i ≤ r .first + r .forth * i
+
+-- s, wrapped at 2^64, takes the place of a pixel to that of the next; a start that is less by b stays less by b
+abbrev pub Advances : RowLine → ℕ → Type 0
+Advances r s = (i k b : ℕ) → Reaches r i → Reaches r (i + k) → b ≤ placeOf r i → b ≤ placeOf r (i + k)
+    → (placeOf r i - b + s * k) % 18446744073709551616 ≡ placeOf r (i + k) - b
 
 -- the places are those of row j of a box along v
 pub record Follows (r : RowLine) (v : HeldVector) (w h j : ℕ) : Type 0 where

@@ -4,11 +4,11 @@ use line::HeldVector;
 use line::Line;
 ghost use mathlib.Core.Path.{_≡_};
 ghost use mathlib.Core.Bool.{true};
-ghost use Prim.Native.Nat.{ℕ, _+_, _-_, _*_, _%_, _≤_, _<_};
+ghost use Prim.Native.Nat.{ℕ, _+_, _*_, _≤_, _<_};
 ghost use Rattle.line.specs.Box.{Box};
 ghost use Rattle.line.specs.Location.{locationBy};
 ghost use Rattle.line.specs.Held.{Bounded, oddOf, ruleIn};
-ghost use Rattle.fixed.specs.Steps.{Within, Steady, Reaches, placeOf, Follows, Told, Inside, Sure};
+ghost use Rattle.fixed.specs.Steps.{Within, Steady, Reaches, placeOf, Advances, Follows, Told, Inside, Sure};
 
 // How far half a pixel across and half a pixel down go along the line, in units, in fixed point.
 pub struct Steps {
@@ -76,10 +76,9 @@ pub fn place(r: RowLine, i: usize) -> u64
     r.first + r.forth * (i as u64) - r.back * (i as u64)
 }
 
-// What takes the place of a pixel to that of the next, wrapped at 2^64; a start that is less by b stays less by b.
+// What takes the place of a pixel to that of the next.
 pub fn step(r: RowLine) -> u64
-    ensures { λ s. ⌜ ((i k b : ℕ) → Reaches r i → Reaches r (i + k) → b ≤ placeOf r i → b ≤ placeOf r (i + k)
-        → (placeOf r i - b + s * k) % 18446744073709551616 ≡ placeOf r (i + k) - b) ⌝ }
+    ensures { λ s. ⌜ Advances r s ⌝ }
 {
     std::num::wrapping_sub_u64(r.forth, r.back)
 }
@@ -106,13 +105,6 @@ pub fn locate(r: RowLine, v: HeldVector, w: usize, h: usize, i: usize, j: usize)
 }
 
 // ---- many places at once
-
-// The low 32 bits.
-fn low_half(e: u64) -> u32
-    ensures { λ r. ⌜ r ≡ e % 4294967296 ⌝ }
-{
-    (e % 4294967296) as u32
-}
 
 // 0 where the digits of a place with this low half tell its whole part, else 1.
 fn untold(low: u32) -> u32
@@ -161,5 +153,5 @@ pub fn are_sure(r: RowLine, i: usize, n: usize, base: u32, size: usize) -> bool
     if !is_inside(place(r, i + (n - 1)), base, size) {
         return false;
     }
-    all_told(low_half(e), low_half(step(r)), n)
+    all_told(numbers::low_half(e), numbers::low_half(step(r)), n)
 }

@@ -8,17 +8,12 @@ use Rattle.line.specs.Location.{locationBy}
 use Rattle.line.specs.Held.{ruleIn}
 use Rattle.line.specs.declared.HeldVector.{HeldVector}
 use Rattle.line.specs.declared.Line.the-variants as L
-use Rattle.fixed.specs.Steps.{Reaches, placeOf, Follows}
+use Rattle.fixed.specs.Steps.{Reaches, placeOf, Advances, Follows}
 use Rattle.fixed.specs.declared.RowLine.{RowLine}
 use Rattle.fixed.proofs.Places.{place-whole}
 use Rattle.lineparts.specs.Sure.{AllSure}
 
--- s takes a place to the next
-abbrev pub Steps : RowLine → ℕ → Type 0
-Steps r s = (i k b : ℕ) → Reaches r i → Reaches r (i + k) → b ≤ placeOf r i → b ≤ placeOf r (i + k)
-    → (placeOf r i - b + s * k) % 18446744073709551616 ≡ placeOf r (i + k) - b
-
-module _ (r : RowLine) (i n base size s : ℕ) (some : 0 < n) (a : AllSure r i n base size) (steps : Steps r s) where
+module _ (r : RowLine) (i n base size s : ℕ) (some : 0 < n) (a : AllSure r i n base size) (steps : Advances r s) where
   first : Reaches r i
   first = rw add-zero at (a .fits 0 some)
 

@@ -14,14 +14,6 @@ ghost use Rattle.fixed.specs.Steps.{Follows};
 ghost use Rattle.table.specs.Table.{Table};
 ghost use Rattle.lineparts.specs.Sure.{AllSure};
 
-// At most 256 of n.
-fn few(n: usize) -> usize
-    requires { ⌜ 0 < n ⌝ }
-    ensures { λ r. ⌜ (0 < r) × (r ≤ n) ⌝ }
-{
-    if n < 256 { n } else { 256 }
-}
-
 // Draws n pixels of row j, from pixel i on: each location is told by the digits of its place or by the rule.
 fn draw_each(
     t: &[u32],
@@ -115,7 +107,7 @@ pub fn draw_row(
 {
     let mut i = 0;
     while i < w {
-        let n = few(w - i);
+        let n = picture::at_most(256, w - i);
         draw_part(
             t,
             base,

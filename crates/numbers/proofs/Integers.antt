@@ -117,3 +117,7 @@ hold-near z k h = sym (diff-abs (natAbs (z +ℤ pos k)) k) ∙ ap natAbs (hold-i
 -- what is held is found again
 pub held-again : (u k : ℕ) → natAbs (subℕ u k +ℤ pos k) ≡ u
 held-again u k = ap (λ (z : ℤ). natAbs (subℕ u k +ℤ z)) (diff-pos k) ∙ ap natAbs (diff-add u k k 0 ∙ diff-eq (u + k) (k + 0) u 0 (omega arith) ∙ sym (diff-pos u))
+
+-- a count above the offset stands for itself
+pub held-count : (k q : ℕ) → subℕ (k + q) k ≡ pos q
+held-count k q = at-pos (k + q) k (omega arith) ∙ ap pos (omega arith)

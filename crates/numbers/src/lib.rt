@@ -1,6 +1,6 @@
 // Numbers of either sign held as unsigned ones, and lengths and percentages in units of 1/64 px.
 ghost use mathlib.Core.Path.{_≡_};
-ghost use Prim.Native.Nat.{_^_, _≤_, _<_};
+ghost use Prim.Native.Nat.{_%_, _^_, _≤_, _<_};
 ghost use lib.IntN.{natAbs, pos, _-ℤ_};
 ghost use Rattle.numbers.specs.Held.{offset, held, unheld};
 ghost use Rattle.numbers.specs.Units.{rounded, lengthUnits, percentageUnits, mostWhole};
@@ -62,4 +62,11 @@ pub fn percentage_units(p: i32, whole: u32) -> u32
     let w = whole as u64;
     let n = round(((hold(p) as u64) + 45568) * w, 100000);
     (n + 33554432 - 336 * w) as u32
+}
+
+// The low 32 bits.
+pub fn low_half(x: u64) -> u32
+    ensures { λ r. ⌜ r ≡ x % 4294967296 ⌝ }
+{
+    (x % 4294967296) as u32
 }

@@ -47,12 +47,12 @@ fn copy_bytes(buf: &mut [u8], from: usize, to: usize, n: usize)
     }
 }
 
-// At most 2,048 of n.
-fn block(n: usize) -> usize
-    requires { ⌜ 0 < n ⌝ }
-    ensures { λ r. ⌜ (0 < r) × (r ≤ n) ⌝ }
+// n, or `most` where that is less.
+pub fn at_most(most: usize, n: usize) -> usize
+    requires { ⌜ (0 < most) × (0 < n) ⌝ }
+    ensures { λ r. ⌜ (0 < r) × (r ≤ most) × (r ≤ n) ⌝ }
 {
-    if n < 2048 { n } else { 2048 }
+    if n < most { n } else { most }
 }
 
 // Copies the n bytes that stand from `from` on to a later place, block by block: a compiler tests the places of many rows that are copied in one loop
@@ -63,7 +63,7 @@ pub fn copy_row(buf: &mut [u8], from: usize, to: usize, n: usize)
 {
     let mut i = 0;
     while i < n {
-        let k = block(n - i);
+        let k = at_most(2048, n - i);
         copy_bytes(buf, from + i, to + i, k);
         i += k;
     }

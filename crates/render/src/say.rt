@@ -8,12 +8,12 @@ fn say(fd: i32, s: &[u8]) {
 pub fn usage(fd: i32) {
     say(
         fd,
-        b"usage: render WIDTH HEIGHT OUT.png [RECIPE]
-       render --raw WIDTH HEIGHT OUT [RECIPE]
-       render --check [RECIPE]
+        b"usage: render WIDTH HEIGHT OUT.png [TEXT]
+       render --raw WIDTH HEIGHT OUT [TEXT]
+       render --check [TEXT]
        render --help
 
-Draws a CSS gradient in a box of 1 to 2048 pixels each way. RECIPE is a file with the
+Draws a CSS gradient in a box of 1 to 2048 pixels each way. TEXT is a file with the
 text of the gradient, such as linear-gradient(to right, black, white); without it the
 text is read from standard input.
 

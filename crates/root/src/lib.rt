@@ -1,7 +1,7 @@
 // The whole-number root.
 ghost use mathlib.Core.Path.{_≡_};
 ghost use mathlib.Core.Bool.{true};
-ghost use Prim.Native.Nat.{_*_, _≤_, _<_};
+ghost use Prim.Native.Nat.{_+_, _*_, _%_, _≤_, _<_};
 ghost use Rattle.root.specs.Root.{IsRoot, rootOf};
 
 // The greatest whole number whose square is at most x, by bisection: it is at least low and below high.
@@ -91,4 +91,14 @@ pub fn root_near(n: u64, x: u64, g: u32) -> u64
         return q;
     }
     root_from(x / n, g)
+}
+
+// One less than the root after the two before it, were all as far apart: the next root is then this, or one or two more. Wrapped at 2^32.
+pub fn ahead(before: u32, last: u32) -> u32
+    ensures { λ r. ⌜ (r + before + 1) % 4294967296 ≡ 2 * last % 4294967296 ⌝ }
+{
+    std::num::wrapping_add_u32(
+        last,
+        std::num::wrapping_sub_u32(last, std::num::wrapping_add_u32(before, 1)),
+    )
 }

@@ -7,7 +7,7 @@ use native.Mathlib.Omega.{arith}
 use lib.IntN.{pos}
 use lib.ListN.{length}
 use Rattle.numbers.specs.Held.{offset, unheld}
-use Rattle.numbers.proofs.Integers.{at-pos}
+use Rattle.numbers.proofs.Integers.{held-count}
 use Rattle.line.specs.Location.{locationBy}
 use Rattle.line.specs.Held.{ruleIn}
 use Rattle.line.specs.declared.Line.{Line}
@@ -19,14 +19,10 @@ use Rattle.picture.proofs.Rows.{row-length, strip-more, strip-length, times-roo
 use Rattle.picture.proofs.Patches.{patch-step}
 use Rattle.rows.specs.Pixel.{lentPixel}
 
--- a location held in the code stands for itself
-held-location : (q : ℕ) → unheld (offset + q) ≡ pos q
-held-location q = at-pos (offset + q) offset (omega arith) ∙ ap pos (omega arith)
-
 -- the color that the code finds at a pixel's location is the pixel
 pub pixel-is : (ps vs : List ℕ) (l : Line) (w h i j q : ℕ) (p : Rgba) → q ≡ locationBy (ruleIn l w h) i j
     → p ≡ colorAt (stopsOf ps vs) (unheld (offset + q)) → bytes p ≡ lentPixel ps vs l w h i j
-pixel-is ps vs l w h i j q p e f = ap bytes (f ∙ ap (colorAt (stopsOf ps vs)) (held-location q ∙ ap pos e))
+pixel-is ps vs l w h i j q p e f = ap bytes (f ∙ ap (colorAt (stopsOf ps vs)) (held-count offset q ∙ ap pos e))
 
 -- four bytes to a pixel
 pub four : (ps vs : List ℕ) (l : Line) (w h i j : ℕ) → length (lentPixel ps vs l w h i j) ≡ 4

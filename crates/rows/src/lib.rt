@@ -18,14 +18,6 @@ fn locate(l: Line, w: usize, h: usize, i: usize, j: usize, guess: u32) -> u32
     line::location(l, w, h, i, j, guess) as u32
 }
 
-// One less than the location after the two before it, were all as far apart: the next location is then this, or one or two more.
-fn ahead(before: u32, last: u32) -> u32 {
-    std::num::wrapping_add_u32(
-        last,
-        std::num::wrapping_sub_u32(last, std::num::wrapping_add_u32(before, 1)),
-    )
-}
-
 fn put_pixel(buf: &mut [u8], at: usize, p: Rgba)
     requires { ⌜ at + 4 ≤ length (now buf) ⌝ }
     ensures { λ _. ⌜ now (buf .exit) ≡ patched (now (buf .entry)) at (bytes p) ⌝ }
@@ -53,7 +45,7 @@ pub fn draw_row(
     let mut last: u32 = 0;
     let mut p = color::clear();
     while i < w {
-        let s = locate(l, w, h, i, j, ahead(before, last));
+        let s = locate(l, w, h, i, j, root::ahead(before, last));
         before = last;
         last = s;
         p = color::color_near(positions, values, 33554432 + s, p);

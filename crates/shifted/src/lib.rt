@@ -63,7 +63,7 @@ pub fn shift_of(v: HeldVector) -> Shift
 // How many of n rows of w pixels are left to draw.
 pub fn fresh(s: Shift, w: usize, n: usize) -> usize
     requires { ⌜ (w ≤ 2048) × (n ≤ 2048) × (s .rows < n) × (s .columns ≤ w) ⌝ }
-    ensures { λ r. ⌜ r ≤ 8388608 ⌝ }
+    ensures { λ r. ⌜ (r ≡ s .rows * w + (n - s .rows) * s .columns) × (r ≤ 8388608) ⌝ }
 {
     s.rows * w + (n - s.rows) * s.columns
 }

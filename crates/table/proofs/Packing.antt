@@ -10,7 +10,7 @@ use lib.IntN.{ℤ, pos}
 use lib.ListN.{length, getD}
 use Rattle.numbers.specs.Fraction.{_⁄_, nearest}
 use Rattle.numbers.specs.Held.{offset, unheld}
-use Rattle.numbers.proofs.Integers.{at-pos}
+use Rattle.numbers.proofs.Integers.{held-count}
 use Rattle.color.specs.Stop.{Channel, red, green, blue, alpha}
 use Rattle.color.specs.Byte.{rgba, bytes, colorAt}
 use Rattle.color.specs.Lent.{Small, Lent, stopsOf, valuesAt, lastUpTo}
@@ -39,10 +39,6 @@ found p hr hg hb ha =
     let e₂ : (b + 256 * a) % 256 ≡ b = omega arith in
     cc
 
--- a held location
-held-here : (s : ℕ) → unheld (offset + s) ≡ pos s
-held-here s = at-pos (offset + s) offset (omega arith) ∙ ap pos (omega arith)
-
 values-small : (vs : List ℕ) → Small vs → (i : ℕ) (c : Channel) → valuesAt vs i c ≤ 65025
 values-small vs h i red = h (4 * i)
 values-small vs h i green = h (4 * i + 1)
@@ -53,7 +49,7 @@ module _ (ps vs : List ℕ) (h : Lent ps vs) where
   -- a color that was found by its held location is the entry
   pub entry-is : (p : Rgba) (s : ℕ) → p ≡ colorAt (stopsOf ps vs) (unheld (offset + s)) → packed p ≡ entryOf ps vs s
   unfolding entryOf
-  entry-is p s e = ap packed (e ∙ ap (colorAt (stopsOf ps vs)) (held-here s))
+  entry-is p s e = ap packed (e ∙ ap (colorAt (stopsOf ps vs)) (held-count offset s))
 
   stop-small : (i : ℕ) (c : Channel) → nearest (valuesAt vs i c ⁄ 255) ≤ 255
   stop-small i c = omega (arith, values-small vs (h .small) i c)
@@ -81,4 +77,4 @@ module _ (ps vs : List ℕ) (h : Lent ps vs) where
   -- the bytes of an entry are the color's
   pub entry-bytes : (s : ℕ) → wordBytes (entryOf ps vs s) ≡ bytes (colorAt (stopsOf ps vs) (pos s))
   unfolding entryOf
-  entry-bytes s = subst (λ (z : ℤ). Found (colorAt (stopsOf ps vs) z)) (held-here s) (color-found (offset + s))
+  entry-bytes s = subst (λ (z : ℤ). Found (colorAt (stopsOf ps vs) z)) (held-count offset s) (color-found (offset + s))

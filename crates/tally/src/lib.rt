@@ -1,7 +1,9 @@
-// Two buffers compared byte by byte, and the count of what was compared, summed and printed.
+// The count of pictures that were compared, summed and printed, and what a buffer holds before.
 use libc::STDOUT_FILENO;
+ghost use mathlib.Core.Path.{_≡_};
+ghost use lib.ListN.{length, replicate};
 
-// What was compared: pictures, how many of them in part, and their pixels; how many bytes differ; and pictures that were refused.
+// What was compared: pictures, how many of them in part, and their pixels; how many pictures differ; and pictures that were refused.
 pub struct Tally {
     pub pictures: u64,
     pub parts: u64,
@@ -10,30 +12,15 @@ pub struct Tally {
     pub refused: u64,
 }
 
-// ---- two buffers
-
-// What stands in the buffers before: it must be there after, past the rows that are drawn.
-pub fn fill(buf: &mut [u8]) {
+// What stands in a buffer before: it must be there after, past the rows that are drawn.
+pub fn fill(buf: &mut [u8])
+    ensures { λ _. ⌜ now (buf .exit) ≡ replicate (length (now (buf .entry))) 1 ⌝ }
+{
     let mut i = 0;
     while i < buf.len() {
         buf[i] = 1;
         i += 1;
     }
-}
-
-// How many bytes differ; one, if the lengths do.
-pub fn differing(s: &[u8], t: &[u8]) -> u64 {
-    if s.len() != t.len() {
-        return 1;
-    }
-    let mut n: u64 = 0;
-    let mut i = 0;
-    while i < s.len() {
-        let one = if s[i] == t[i] { 0 } else { 1 };
-        n = std::num::wrapping_add_u64(n, one);
-        i += 1;
-    }
-    n
 }
 
 // ---- counting
@@ -122,5 +109,5 @@ pub fn say_tally(t: Tally) {
     say_number(t.pixels);
     say(b" pixels; ");
     say_number(t.different);
-    say(b" bytes differ\n");
+    say(b" differ\n");
 }

@@ -55,7 +55,7 @@ returns-3 c = λ h.
     let first = c .before .before .before .before .before .before .before .before .is-inside .ensures (not-false _ (c .before .before .before .before .before .before .before .if1 .left)) in
     let last = c .before .before .before .before .before .is-inside2 .ensures (not-false _ (c .before .before .before .before .if2 .left)) in
     all-sure (a .r) (a .i) (a .n) (a .base) (a .size) _ _ _ _ (s .pre .0) (s .pre .2) e (rw e at first) (rw z at last)
-    (λ k b. c .before .before .step .ensures (a .i) k b) (c .before .before .before .low-half .ensures) (c .before .low-half2 .ensures) (c .all-told .ensures h)
+    (c .before .before .step .ensures) (c .before .before .before .low-half .ensures) (c .before .low-half2 .ensures) (c .all-told .ensures h)
 
 pub are-sure-spec : {M : Type 1} → statement M
 are-sure-spec =

@@ -27,11 +27,11 @@ abbrev μ-loop : tie.MeasureT-loop
 loop-holds : tie.Need-loop-holds Inv-loop μ-loop
 loop-holds c = let a = c .before .before .before .before .args in (rw part-none (patch-none (now (a .buf)) (a .at)), omega arith, refl)
 
-sub-few : tie.Need-sub-few Inv-loop μ-loop
-sub-few c = omega arith
+sub-at-most : tie.Need-sub-at-most Inv-loop μ-loop
+sub-at-most c = omega arith
 
-few-requires : tie.Need-few-requires Inv-loop μ-loop
-few-requires c κs = omega arith
+at-most-requires : tie.Need-at-most-requires Inv-loop μ-loop
+at-most-requires c κs = search needs
 
 mul-draw-part : tie.Need-mul-draw-part Inv-loop μ-loop
 mul-draw-part c = omega arith
@@ -40,23 +40,23 @@ add-draw-part : tie.Need-add-draw-part Inv-loop μ-loop
 add-draw-part c = omega arith
 
 draw-part-requires : tie.Need-draw-part-requires Inv-loop μ-loop
-draw-part-requires c κs = let p = c .before .before .before .before .before .before .before .before .pre in (p .0, p .1, p .2, c .before .few .ensures .0, omega (arith, c .before .few .ensures), omega (arith, c .before .few .ensures))
+draw-part-requires c κs = let p = c .before .before .before .before .before .before .before .before .pre in (p .0, p .1, p .2, c .before .at-most .ensures .0, omega (arith, c .before .at-most .ensures), omega (arith, c .before .at-most .ensures))
 
 add-i : tie.Need-add-i Inv-loop μ-loop
 add-i c = omega arith
 
 loop-less : tie.Need-loop-less Inv-loop μ-loop
-loop-less c = omega (arith, c .before .before .before .before .few .ensures)
+loop-less c = omega (arith, c .before .before .before .before .at-most .ensures)
 
 loop-again : tie.Need-loop-again Inv-loop μ-loop
 loop-again c =
     let a = c .before .before .before .before .before .before .before .before .before .before .before .args in
     let l = c .before .before .before .before .before .before .loop in
-    let n = c .before .before .before .before .few .result in
+    let n = c .before .before .before .before .at-most .result in
     let px : (ℕ → ℕ → List ℕ) = lentPixel (a .positions .now) (a .values .now) (L.Straight (a .v)) (a .w) (a .h) in (
       parts-step px (four (a .positions .now) (a .values .now) (L.Straight (a .v)) (a .w) (a .h)) (now (a .buf)) (l .buf) _ (a .at) (a .at + 4 * l .i) 0 (l .i) n (a .j) refl
-          (omega (arith, c .before .before .before .before .few .ensures)) (l .inv .0) (rw zero-add (c .before .before .draw-part .ensures)),
-      omega (arith, c .before .before .before .before .few .ensures),
+          (omega (arith, c .before .before .before .before .at-most .ensures)) (l .inv .0) (rw zero-add (c .before .before .draw-part .ensures)),
+      omega (arith, c .before .before .before .before .at-most .ensures),
       omega arith,
     )
 
@@ -76,8 +76,8 @@ draw-row-spec =
     Inv-loop
     μ-loop
     loop-holds
-    sub-few
-    few-requires
+    sub-at-most
+    at-most-requires
     mul-draw-part
     add-draw-part
     draw-part-requires

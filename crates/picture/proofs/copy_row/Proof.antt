@@ -18,11 +18,11 @@ abbrev μ-loop : tie.MeasureT-loop
 loop-holds : tie.Need-loop-holds Inv-loop μ-loop
 loop-holds c = (patch-none (now (c .before .args .buf)) (c .before .args .to), omega arith, refl)
 
-sub-block : tie.Need-sub-block Inv-loop μ-loop
-sub-block c = omega arith
+sub-at-most : tie.Need-sub-at-most Inv-loop μ-loop
+sub-at-most c = omega arith
 
-block-requires : tie.Need-block-requires Inv-loop μ-loop
-block-requires c κs = omega arith
+at-most-requires : tie.Need-at-most-requires Inv-loop μ-loop
+at-most-requires c κs = (omega arith, omega arith)
 
 add-copy-bytes : tie.Need-add-copy-bytes Inv-loop μ-loop
 add-copy-bytes c = omega arith
@@ -31,20 +31,20 @@ add-copy-bytes-2 : tie.Need-add-copy-bytes-2 Inv-loop μ-loop
 add-copy-bytes-2 c = omega arith
 
 copy-bytes-requires : tie.Need-copy-bytes-requires Inv-loop μ-loop
-copy-bytes-requires c κs = let k = c .before .block .ensures in (omega arith, omega arith)
+copy-bytes-requires c κs = let k = c .before .at-most .ensures in (omega arith, omega arith)
 
 add-i : tie.Need-add-i Inv-loop μ-loop
-add-i c = omega (arith, c .before .before .before .before .block .ensures)
+add-i c = omega (arith, c .before .before .before .before .at-most .ensures)
 
 loop-less : tie.Need-loop-less Inv-loop μ-loop
-loop-less c = omega (arith, c .before .before .before .before .block .ensures)
+loop-less c = omega (arith, c .before .before .before .before .at-most .ensures)
 
 loop-again : tie.Need-loop-again Inv-loop μ-loop
 loop-again c =
     let a = c .before .before .before .before .before .before .before .before .args in
     let l = c .before .before .before .before .before .before .loop in
-    let k = c .before .before .before .before .block .ensures in
-    (copies-step (now (a .buf)) (l .buf) _ (a .from) (a .to) (l .i) (c .before .before .before .before .block .result) (omega arith) (omega arith) (l .inv .0) (c .before .before .copy-bytes .ensures), omega arith, omega arith)
+    let k = c .before .before .before .before .at-most .ensures in
+    (copies-step (now (a .buf)) (l .buf) _ (a .from) (a .to) (l .i) (c .before .before .before .before .at-most .result) (omega arith) (omega arith) (l .inv .0) (c .before .before .copy-bytes .ensures), omega arith, omega arith)
 
 same-length : tie.Need-same-length Inv-loop μ-loop
 same-length c = c .before .loop .inv .2
@@ -61,8 +61,8 @@ copy-row-spec =
     Inv-loop
     μ-loop
     loop-holds
-    sub-block
-    block-requires
+    sub-at-most
+    at-most-requires
     add-copy-bytes
     add-copy-bytes-2
     copy-bytes-requires

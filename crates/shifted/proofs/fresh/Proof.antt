@@ -1,4 +1,5 @@
 -- `shifted::fresh` meets its contract. Assumes nothing.
+use mathlib.Core.Path.{refl}
 use Prim.Native.Nat.{ℕ, _-_, _*_, _≤_}
 use native.Mathlib.Nat.{mul-le-mul}
 use native.Mathlib.Omega.{arith}
@@ -27,7 +28,7 @@ add-result : tie.Need-add-result
 add-result c = omega (arith, small (c .before .before .before))
 
 returns : tie.Need-returns
-returns c = omega (arith, small (c .before .before .before))
+returns c = (refl, omega (arith, small (c .before .before .before)))
 
 pub fresh-spec : {M : Type 1} → statement M
 fresh-spec = tie.close (tie.spec mul-result sub-result mul-result-2 add-result returns)

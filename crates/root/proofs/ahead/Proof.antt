@@ -1,10 +1,10 @@
--- `circleroots::ahead` meets its contract. Assumes nothing.
+-- `root::ahead` meets its contract. Assumes nothing.
 use mathlib.Core.Path.{_≡_}
 use Prim.Native.Nat.{ℕ, _+_, _*_, _%_}
 use native.Mathlib.Omega.{arith}
 use borrow.Author.Needs.{needs}
-use Rattle.circleroots.proofs.ahead.Statement.{statement}
-use Rattle.circleroots.proofs.ahead.Tie as tie
+use Rattle.root.proofs.ahead.Statement.{statement}
+use Rattle.root.proofs.ahead.Tie as tie
 
 after : (before last s t r : ℕ) → s ≡ (before + 1) % 4294967296 → (t + s) % 4294967296 ≡ last → r ≡ (last + t) % 4294967296
     → (r + before + 1) % 4294967296 ≡ 2 * last % 4294967296
