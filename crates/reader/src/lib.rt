@@ -18,7 +18,7 @@ ghost use Rattle.heads.specs.Direction.{directionOf};
 ghost use Rattle.circles.specs.Circle.{radialOf};
 ghost use Rattle.heads.specs.View.{viewDirection};
 ghost use Rattle.circles.specs.View.{viewShape};
-ghost use Rattle.reader.specs.Text.{linearOf, circularOf, ofKind, closesOf, kindOf, functionOf};
+ghost use Rattle.reader.specs.Text.{linearOf, circularOf, ofKind, kindOf, functionOf};
 ghost use Rattle.reader.specs.Reading.{answered, readOf};
 ghost use Rattle.reader.specs.View.{viewKind, CloseAt, noDraft, draftOf, drafted, draftReply, concluded};
 
@@ -144,22 +144,21 @@ fn read_body(k: Kind, s: &[u8]) -> Draft
 
 // ---- the whole text
 
-// Whether the closing bracket stands at the cursor: `)` with only white space after it.
-fn closes(s: &[u8], c: Cursor) -> bool
-    ensures { λ r. ⌜ r ≡ closesOf (drop (c .at) (now (s .entry))) ⌝ }
-{
-    text::peek(s, c) == b')' && text::is_end(s, text::skip_space(s, text::step(s, c)))
-}
-
+// The closing bracket is the last byte that is no white space.
 fn find_close(s: &[u8], from: usize) -> CloseRead
     ensures { λ r. ⌜ CloseAt (now (s .entry)) from r ⌝ }
 {
-    let mut i = from;
-    while i < s.len() {
-        if closes(s, Cursor { at: i }) {
-            return CloseRead::At(i);
+    let mut end = s.len();
+    while from < end {
+        let last = end - 1;
+        let b = s[last];
+        if b == b')' {
+            return CloseRead::At(last);
         }
-        i += 1;
+        if !text::is_space(b) {
+            return CloseRead::Missing;
+        }
+        end = last;
     }
     CloseRead::Missing
 }

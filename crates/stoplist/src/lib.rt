@@ -7,9 +7,12 @@ use tokens::ColorRead;
 use tokens::NumberRead;
 use tokens::Unit;
 ghost use mathlib.Core.Path.{_≡_};
-ghost use Prim.Native.Nat.{_≤_};
+ghost use Prim.Native.Nat.{_+_, _≤_};
+ghost use mathlib.Core.Bool.{cond, not, _||_};
+ghost use lib.Dec.{ltb};
 ghost use lib.ListN.{length, drop};
 ghost use Rattle.text.specs.Text.{afterGap, wholeOf};
+ghost use Rattle.gradient.specs.Range.{stopIn};
 ghost use Rattle.tokens.specs.Number.{cut};
 ghost use Rattle.stoplist.specs.Stops.{positionOf, stopOf, twoStopsOf};
 ghost use Rattle.stoplist.specs.View.{viewPosition, viewStop, blankList, added, noListing, listingOf, itemsFrom, CommaAt};
@@ -125,28 +128,19 @@ fn no_listing() -> Listing
     }
 }
 
-// A list with one stop more. Past the sixteenth only the count and the range are noted.
-pub fn add_stop(t: StopList, s: Stop) -> StopList
-    ensures { λ r. ⌜ r ≡ added t s ⌝ }
+// One stop more; past the sixteenth, 17.
+fn one_more(count: u32) -> u32
+    ensures { λ r. ⌜ r ≡ cond (ltb count 16) (count + 1) 17 ⌝ }
+{
+    if count < 16 { count + 1 } else { 17 }
+}
+
+// Whether a number is out of its range: of the stops before, or of one more.
+fn still_wide(wide: bool, s: Stop) -> bool
+    ensures { λ r. ⌜ r ≡ (wide || not (stopIn s)) ⌝ }
 {
     let p = s.position;
-    let wide = t.wide || !gradient::position_in(p);
-    let n = t.count;
-    let mut stops = t.stops;
-    if n < 16 {
-        let i = n as usize;
-        stops[i] = s;
-        return StopList {
-            stops: stops,
-            count: n + 1,
-            wide: wide,
-        };
-    }
-    StopList {
-        stops: stops,
-        count: 17,
-        wide: wide,
-    }
+    wide || !gradient::position_in(p)
 }
 
 // The first comma at or after a place, or the end.
@@ -164,7 +158,7 @@ pub fn find_comma(s: &[u8], at: usize) -> usize
     i
 }
 
-// The items from a place on as stops.
+// The items from a place on as stops. Past the sixteenth only the count and the range are noted.
 pub fn read_stops(s: &[u8], from: usize) -> Listing
     ensures { λ r. ⌜ r ≡ listingOf (twoStopsOf cut (itemsFrom (now (s .entry)) from)) ⌝ }
 {
@@ -175,7 +169,13 @@ pub fn read_stops(s: &[u8], from: usize) -> Listing
         let StopRead::Got(stop, _) = whole_stop(&s[at..end]) else {
             return no_listing();
         };
-        list = add_stop(list, stop);
+        let n = list.count;
+        if n < 16 {
+            let i = n as usize;
+            list.stops[i] = stop;
+        }
+        list.count = one_more(n);
+        list.wide = still_wide(list.wide, stop);
         at = end + 1;
     }
     if list.count < 2 {

@@ -1,4 +1,5 @@
 pub mod Cut
+pub mod Tables
 pub mod Hex
 pub mod Decimal
 pub mod Magnitudes

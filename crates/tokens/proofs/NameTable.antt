@@ -1,85 +1,22 @@
--- The code's table of names is the table of the definitions, and the order of its rows does not matter.
+-- The names: no one begins another, so the order of the table does not matter, and the first letter leaves only few of them.
 -- Assumes nothing.
 use mathlib.Core.Path.{_≡_, refl, sym, ap, _∙_}
-use mathlib.Core.Bool.{Bool, true, false, not, _&&_, _||_, false≢true}
+use mathlib.Core.Bool.{Bool, true, false, cond, not, _&&_, _||_, true≢false, false≢true}
 use mathlib.Core.List.{List, [], _∷_}
-use Prim.Native.Nat.{ℕ, zero, suc, _+_, _-_, _≤_, _<_}
+use Prim.Native.Nat.{ℕ, zero, suc, _<_}
 use native.Mathlib.Omega.{arith}
-use lib.Dec.{leb}
-use lib.ListN.{length, getD, take, drop, replicate, getD-replicate}
-use borrow.Author.Tests.{leb-true, eq-eqb}
+use lib.Dec.{eqb}
+use lib.ListN.{length, getD}
+use borrow.Author.Tests.{eq-eqb, ne-eqb}
 use Rattle.gradient.specs.Lists.{all}
-use Rattle.text.specs.Text.{bytes, restOf, Read, got, refused, _>>=_, _orRead_, keywordOf}
+use Rattle.text.specs.Text.{peekOf, restOf, lower, Read, got, refused, _>>=_, _orRead_, keywordOf}
 use Rattle.text.proofs.Laws.{got-refused, keyword-letter}
 use Rattle.gradient.specs.declared.Color.{Color}
-use Rattle.tokens.specs.Color.{Row, colorNames, noRow, rowAt, rowOf, namedOf, begins, apart}
-use Rattle.tokens.specs.View.{fromRgba}
-
--- the code's tables: the letters of all names, where each name starts among them, and its color
-abbrev pub letters : List ℕ
-letters = bytes "aqua black blue fuchsia gray green lime maroon navy olive purple red silver teal white yellow transparent"
-
-abbrev pub start : ℕ → ℕ
-start i = getD (0 ∷ 5 ∷ 11 ∷ 16 ∷ 24 ∷ 29 ∷ 35 ∷ 40 ∷ 47 ∷ 52 ∷ 58 ∷ 65 ∷ 69 ∷ 76 ∷ 81 ∷ 87 ∷ 94 ∷ 106 ∷ []) i 0
-
-abbrev pub rgba : ℕ → ℕ
-rgba i =
-    getD
-    (0x00ffff_ff ∷ 0x000000_ff ∷ 0x0000ff_ff ∷ 0xff00ff_ff ∷ 0x808080_ff ∷ 0x008000_ff ∷ 0x00ff00_ff ∷ 0x800000_ff ∷
-    0x000080_ff ∷ 0x808000_ff ∷ 0x800080_ff ∷ 0xff0000_ff ∷ 0xc0c0c0_ff ∷ 0x008080_ff ∷ 0xffffff_ff ∷ 0xffff00_ff ∷ 0x000000_00 ∷ [])
-    i 0
-
-abbrev word : ℕ → List ℕ
-word i = take (start (i + 1) - 1 - start i) (drop (start i) letters)
-
--- what f gives for n numbers from a on
-abbrev table : {A : Type 0} → (ℕ → A) → ℕ → ℕ → List A
-table f a zero = []
-table f a (suc n) = f a ∷ table f (suc a) n
-
-table-at : {A : Type 0} (f : ℕ → A) (a n i k : ℕ) (d : A) → i < n → a + i ≡ k → getD (table f a n) i d ≡ f k
-table-at f a zero i k d h e = absurd (omega arith)
-table-at f a (suc n) zero k d h e = ap f (omega arith)
-table-at f a (suc n) (suc i) k d h e = table-at f (suc a) n i k d (omega arith) (omega arith)
-
--- the two tables are the same
-abbrev codeRow : ℕ → Row
-codeRow i = record { name = word i; color = fromRgba (rgba i) }
-
-same : table codeRow 0 17 ≡ colorNames
-unfolding colorNames
-same = refl
-
--- and each name lies within the letters
-inside : ℕ → Bool
-inside i = leb (start i + 1) (start (i + 1)) && leb (start (i + 1)) 106
-
-all-inside : table inside 0 17 ≡ replicate 17 true
-unfolding inside
-all-inside = refl
+use Rattle.tokens.specs.Color.{Row, colorNames, rowAt, rowOf, namedOf, begins, apart}
 
 both : {a b : Bool} → (a && b) ≡ true → (a ≡ true) × (b ≡ true)
 both {a = true} e = (refl, e)
 both {a = false} e = absurd (false≢true e)
-
--- the code's row i
-pub record Fit (i : ℕ) : Type 0 where
-  pub order : start i + 1 ≤ start (i + 1)
-  pub within : start (i + 1) ≤ 106
-  pub name : word i ≡ rowAt i .name
-  pub color : fromRgba (rgba i) ≡ rowAt i .color
-
-pub fit : (i : ℕ) → i < 17 → Fit i
-unfolding inside
-fit i h =
-    let t : inside i ≡ true = sym (table-at inside 0 17 i i true h (omega arith)) ∙ ap (λ (l : List Bool). getD l i true) all-inside ∙ getD-replicate 17 i true true h in
-    let e : codeRow i ≡ rowAt i = sym (table-at codeRow 0 17 i i noRow h (omega arith)) ∙ ap (λ (l : List Row). getD l i noRow) same in
-    record {
-      order = leb-true _ _ (both {a = leb (start i + 1) (start (i + 1))} t .0);
-      within = leb-true _ _ (both {a = leb (start i + 1) (start (i + 1))} t .1);
-      name = ap (λ (r : Row). r .name) e;
-      color = ap (λ (r : Row). r .color) e;
-    }
 
 -- what holds of each element of a list holds at each place
 at-each : {A : Type 0} (p : A → Bool) (l : List A) (d : A) → all p l ≡ true → (i : ℕ) → i < length l → p (getD l i d) ≡ true
@@ -137,3 +74,93 @@ any-row {x} {k} l d (w ∷ t) a (suc i) h e = go (rowOf w l) refl (any-row l d t
 
 pub name-found : {x : Color} {k : List ℕ} (l : List ℕ) (i : ℕ) → i < 17 → got x k ≡ rowOf (rowAt i) l → got x k ≡ namedOf colorNames l
 name-found l i h e = any-row l _ colorNames names-apart i (omega (arith, names-long)) e
+
+-- ---- the names by their first letter: whether a name begins with x, and the rows whose names do
+abbrev leads : ℕ → List ℕ → Bool
+leads x [] = true
+leads x (k ∷ w) = eqb x k
+
+abbrev only : ℕ → List Row → List Row
+only x [] = []
+only x (w ∷ t) = cond (leads x (w .name)) (w ∷ only x t) (only x t)
+
+pub or-none : (r : Read Color) → r ≡ (r orRead refused)
+or-none (got v k) = refl
+or-none refused = refl
+
+module _ (l : List ℕ) (x : ℕ) (e : x ≡ lower (peekOf l)) where
+  other-letter : (w : Row) → leads x (w .name) ≡ false → rowOf w l ≡ refused
+  unfolding rowOf keywordOf
+  other-letter w h = rw (go (w .name) h)
+    where
+      go : (n : List ℕ) → leads x n ≡ false → keywordOf n l ≡ refused
+      go [] q = absurd (true≢false q)
+      go (k ∷ n) q = rw (← e, q)
+
+  by-letter : (t : List Row) → namedOf (only x t) l ≡ namedOf t l
+  unfolding namedOf
+  by-letter [] = refl
+  by-letter (w ∷ t) = go (leads x (w .name)) refl (by-letter t)
+    where
+      go : (b : Bool) → leads x (w .name) ≡ b → namedOf (only x t) l ≡ namedOf t l
+          → namedOf (cond b (w ∷ only x t) (only x t)) l ≡ (rowOf w l orRead namedOf t l)
+      go true q h = rw h
+      go false q h = rw (other-letter w q, h)
+
+  pub these-names : {t : List Row} → only x colorNames ≡ t → namedOf t l ≡ namedOf colorNames l
+  these-names q = ap (λ t. namedOf t l) (sym q) ∙ by-letter colorNames
+
+  pub one-name : {w : Row} → only x colorNames ≡ w ∷ [] → rowOf w l ≡ namedOf colorNames l
+  unfolding namedOf
+  one-name q = or-none _ ∙ these-names q
+
+-- a letter that no name begins with
+abbrev NoneLeads : ℕ → List Row → Type 0
+NoneLeads x [] = Unit {0}
+NoneLeads x (w ∷ t) = (leads x (w .name) ≡ false) × NoneLeads x t
+
+none-leads : (x : ℕ) (t : List Row) → NoneLeads x t → only x t ≡ []
+none-leads x [] h = refl
+none-leads x (w ∷ t) h = rw (h .0, none-leads x t (h .1))
+
+pub no-letter : (x : ℕ) → (x ≡ 97 → ⊥) → (x ≡ 98 → ⊥) → (x ≡ 102 → ⊥) → (x ≡ 103 → ⊥) → (x ≡ 108 → ⊥) → (x ≡ 109 → ⊥) → (x ≡ 110 → ⊥)
+    → (x ≡ 111 → ⊥) → (x ≡ 112 → ⊥) → (x ≡ 114 → ⊥) → (x ≡ 115 → ⊥) → (x ≡ 116 → ⊥) → (x ≡ 119 → ⊥) → (x ≡ 121 → ⊥) → only x colorNames ≡ []
+unfolding colorNames
+no-letter x a b f g l m n o p r s t w y =
+    none-leads x colorNames (
+      ne-eqb x 97 a,
+      (
+        ne-eqb x 98 b,
+        (
+          ne-eqb x 98 b,
+          (
+            ne-eqb x 102 f,
+            (
+              ne-eqb x 103 g,
+              (
+                ne-eqb x 103 g,
+                (
+                  ne-eqb x 108 l,
+                  (
+                    ne-eqb x 109 m,
+                    (
+                      ne-eqb x 110 n,
+                      (
+                        ne-eqb x 111 o,
+                        (
+                          ne-eqb x 112 p,
+                          (
+                            ne-eqb x 114 r,
+                            (ne-eqb x 115 s, (ne-eqb x 116 t, (ne-eqb x 119 w, (ne-eqb x 121 y, (ne-eqb x 116 t, tt))))),
+                          ),
+                        ),
+                      ),
+                    ),
+                  ),
+                ),
+              ),
+            ),
+          ),
+        ),
+      ),
+    )

@@ -3,12 +3,14 @@ use gradient::Color;
 use text::Cursor;
 use text::Match;
 ghost use mathlib.Core.Path.{_≡_};
-ghost use Prim.Native.Nat.{_+_, _*_, _-_, _≤_, _<_, min};
+ghost use Prim.Native.Nat.{_+_, _*_, _-_, _%_, _≤_, _<_, min};
+ghost use mathlib.Core.Bool.{true};
+ghost use mathlib.Core.List.{[], _∷_};
 ghost use lib.ListN.{drop};
 ghost use Rattle.text.specs.Text.{mapRead};
 ghost use Rattle.tokens.specs.Number.{isDigit, afterSign, signed, fractionOf, magnitudeOf, unitOf, numberOf, cut, most, upTo};
-ghost use Rattle.tokens.specs.Color.{isHex, hexValue, channelOf, ofChannels, hexOf, rowAt, rowOf, namedOf, colorNames, colorOf};
-ghost use Rattle.tokens.specs.View.{DigitsAt, HexAt, fromRgba, viewAmount, viewUnit, viewNumber, viewColor};
+ghost use Rattle.tokens.specs.Color.{isHex, hexValue, hexOf, rowOf, namedOf, colorNames, colorOf};
+ghost use Rattle.tokens.specs.View.{DigitsAt, HexAt, fromRgba, fromShort, nameRow, viewAmount, viewUnit, viewNumber, viewColor};
 
 // px, % or deg.
 pub enum Unit {
@@ -40,8 +42,9 @@ pub struct Digits {
     pub next: Cursor,
 }
 
-// How many hex digits there are, and what follows them.
+// The number that hex digits write, of more than eight the last eight; how many they are; and what follows them.
 pub struct HexRun {
+    pub value: u32,
     pub count: usize,
     pub next: Cursor,
 }
@@ -188,123 +191,53 @@ pub fn read_number(s: &[u8], c: Cursor) -> NumberRead
     )
 }
 
+// Bit b - 48 stands for the byte b.
 fn is_hex(b: u8) -> bool
     ensures { λ r. ⌜ r ≡ isHex b ⌝ }
 {
-    match b {
-        b'0'..=b'9' | b'A'..=b'F' | b'a'..=b'f' => true,
-        _ => false,
+    if b < b'0' {
+        return false;
     }
+    if b'f' < b {
+        return false;
+    }
+    0x7e0000_007e03ff_u64 >> ((b as u64) - 48) & 1 == 1
 }
 
-// The value of a hex digit, 0 of any other byte.
-fn hex_value(b: u8) -> u8
+// A digit ends in its value, a letter in its value less 9.
+fn hex_value(b: u8) -> u32
+    requires { ⌜ isHex b ≡ true ⌝ }
     ensures { λ r. ⌜ r ≡ hexValue b ⌝ }
 {
-    match b {
-        b'0'..=b'9' => b - b'0',
-        b'A'..=b'F' => b - b'A' + 10,
-        b'a'..=b'f' => b - b'a' + 10,
-        _ => 0,
-    }
+    let n = b as u32;
+    n % 16 + 9 * (n / 64)
 }
 
-fn count_hex(s: &[u8], c: Cursor) -> HexRun
+// The number with one hex digit more, of more than eight the last eight.
+fn shift_hex(value: u32, b: u8) -> u32
+    requires { ⌜ isHex b ≡ true ⌝ }
+    ensures { λ r. ⌜ r ≡ (value * 16 + hexValue b) % 0x100000000 ⌝ }
+{
+    value % 0x10000000 * 16 + hex_value(b)
+}
+
+fn read_hex_digits(s: &[u8], c: Cursor) -> HexRun
     ensures { λ r. ⌜ HexAt (now (s .entry)) (drop (c .at) (now (s .entry))) r ⌝ }
 {
     let mut k = c;
+    let mut value: u32 = 0;
     let mut count: usize = 0;
     while is_hex(text::peek(s, k)) {
+        value = shift_hex(value, text::peek(s, k));
         count += 1;
         k = text::step(s, k);
     }
     HexRun {
+        value: value,
         count: count,
         next: k,
     }
 }
-
-// Channel i, of one digit or of two.
-fn channel(s: &[u8], c: Cursor, short: bool, i: usize) -> u8
-    requires { ⌜ i < 4 ⌝ }
-    ensures { λ r. ⌜ r ≡ channelOf short (drop (c .at) (now (s .entry))) i ⌝ }
-{
-    if short {
-        17 * hex_value(text::peek_at(s, c, i))
-    } else {
-        16 * hex_value(text::peek_at(s, c, 2 * i)) + hex_value(text::peek_at(s, c, 2 * i + 1))
-    }
-}
-
-fn hex_color(s: &[u8], c: Cursor, short: bool, alpha: u8) -> Color
-    ensures { λ r. ⌜ r ≡ ofChannels (channelOf short (drop (c .at) (now (s .entry)))) alpha ⌝ }
-{
-    Color {
-        red: channel(s, c, short, 0),
-        green: channel(s, c, short, 1),
-        blue: channel(s, c, short, 2),
-        alpha: alpha,
-    }
-}
-
-// 3, 4, 6 or 8 hex digits.
-fn read_hex(s: &[u8], c: Cursor) -> ColorRead
-    ensures { λ r. ⌜ viewColor (now (s .entry)) r ≡ hexOf (drop (c .at) (now (s .entry))) ⌝ }
-{
-    let h = count_hex(s, c);
-    let n = h.count;
-    let k = h.next;
-    match n {
-        3 => ColorRead::Got(hex_color(s, c, true, 255), k),
-        4 => ColorRead::Got(hex_color(s, c, true, channel(s, c, true, 3)), k),
-        6 => ColorRead::Got(hex_color(s, c, false, 255), k),
-        8 => ColorRead::Got(hex_color(s, c, false, channel(s, c, false, 3)), k),
-        _ => ColorRead::Refused,
-    }
-}
-
-// Where each name starts in the text of all names, with a place after each.
-const STARTS: [usize; 18] = [
-    0, // aqua
-    5, // black
-    11, // blue
-    16, // fuchsia
-    24, // gray
-    29, // green
-    35, // lime
-    40, // maroon
-    47, // navy
-    52, // olive
-    58, // purple
-    65, // red
-    69, // silver
-    76, // teal
-    81, // white
-    87, // yellow
-    94, // transparent
-    106,
-];
-
-// The color of each name, as rrggbbaa.
-const RGBA: [u32; 17] = [
-    0x00ffff_ff, // aqua
-    0x000000_ff, // black
-    0x0000ff_ff, // blue
-    0xff00ff_ff, // fuchsia
-    0x808080_ff, // gray
-    0x008000_ff, // green
-    0x00ff00_ff, // lime
-    0x800000_ff, // maroon
-    0x000080_ff, // navy
-    0x808000_ff, // olive
-    0x800080_ff, // purple
-    0xff0000_ff, // red
-    0xc0c0c0_ff, // silver
-    0x008080_ff, // teal
-    0xffffff_ff, // white
-    0xffff00_ff, // yellow
-    0x000000_00, // transparent
-];
 
 fn from_rgba(n: u32) -> Color
     ensures { λ r. ⌜ r ≡ fromRgba n ⌝ }
@@ -317,32 +250,83 @@ fn from_rgba(n: u32) -> Color
     }
 }
 
-// The name of row i.
-fn read_row(s: &[u8], c: Cursor, i: usize) -> ColorRead
-    requires { ⌜ i < 17 ⌝ }
-    ensures { λ r. ⌜ viewColor (now (s .entry)) r ≡ rowOf (rowAt i) (drop (c .at) (now (s .entry))) ⌝ }
+// The color of four hex digits, rgba.
+fn from_short(n: u32) -> Color
+    requires { ⌜ n < 0x10000 ⌝ }
+    ensures { λ r. ⌜ r ≡ fromShort n ⌝ }
 {
-    let names: &[u8] =
-        b"aqua black blue fuchsia gray green lime maroon navy olive purple red silver teal white yellow transparent";
-    let from = STARTS[i];
-    let to = STARTS[i + 1] - 1;
-    let Match::Past(k) = text::keyword(s, c, &names[from..to]) else {
-        return ColorRead::Refused;
-    };
-    ColorRead::Got(from_rgba(RGBA[i]), k)
+    Color {
+        red: (n / 0x1000 * 17) as u8,
+        green: (n / 0x100 % 16 * 17) as u8,
+        blue: (n / 0x10 % 16 * 17) as u8,
+        alpha: (n % 16 * 17) as u8,
+    }
 }
 
+// 3, 4, 6 or 8 hex digits.
+fn read_hex(s: &[u8], c: Cursor) -> ColorRead
+    ensures { λ r. ⌜ viewColor (now (s .entry)) r ≡ hexOf (drop (c .at) (now (s .entry))) ⌝ }
+{
+    let h = read_hex_digits(s, c);
+    let n = h.count;
+    let k = h.next;
+    match n {
+        3 => ColorRead::Got(from_short(h.value * 16 + 15), k),
+        4 => ColorRead::Got(from_short(h.value), k),
+        6 => ColorRead::Got(from_rgba(h.value * 256 + 255), k),
+        8 => ColorRead::Got(from_rgba(h.value), k),
+        _ => ColorRead::Refused,
+    }
+}
+
+// A name, whose color is rrggbbaa.
+fn read_word(s: &[u8], c: Cursor, name: &[u8], rgba: u32) -> ColorRead
+    ensures { λ r. ⌜ viewColor (now (s .entry)) r ≡ rowOf (nameRow (now (name .entry)) rgba) (drop (c .at) (now (s .entry))) ⌝ }
+{
+    let Match::Past(k) = text::keyword(s, c, name) else {
+        return ColorRead::Refused;
+    };
+    ColorRead::Got(from_rgba(rgba), k)
+}
+
+// One of two names.
+fn read_either(
+    s: &[u8],
+    c: Cursor,
+    name: &[u8],
+    rgba: u32,
+    other: &[u8],
+    other_rgba: u32,
+) -> ColorRead
+    ensures { λ r. ⌜ viewColor (now (s .entry)) r ≡ namedOf (nameRow (now (name .entry)) rgba ∷ nameRow (now (other .entry)) «other_rgba» ∷ []) (drop (c .at) (now (s .entry))) ⌝ }
+{
+    if let ColorRead::Got(v, k) = read_word(s, c, name, rgba) {
+        return ColorRead::Got(v, k);
+    }
+    read_word(s, c, other, other_rgba)
+}
+
+// The names, by their first letter.
 fn read_name(s: &[u8], c: Cursor) -> ColorRead
     ensures { λ r. ⌜ viewColor (now (s .entry)) r ≡ namedOf colorNames (drop (c .at) (now (s .entry))) ⌝ }
 {
-    let mut i = 0;
-    while i < 17 {
-        if let ColorRead::Got(v, k) = read_row(s, c, i) {
-            return ColorRead::Got(v, k);
-        }
-        i += 1;
+    match text::lower_case(text::peek(s, c)) {
+        b'a' => read_word(s, c, b"aqua", 0x00ffff_ff),
+        b'b' => read_either(s, c, b"black", 0x000000_ff, b"blue", 0x0000ff_ff),
+        b'f' => read_word(s, c, b"fuchsia", 0xff00ff_ff),
+        b'g' => read_either(s, c, b"gray", 0x808080_ff, b"green", 0x008000_ff),
+        b'l' => read_word(s, c, b"lime", 0x00ff00_ff),
+        b'm' => read_word(s, c, b"maroon", 0x800000_ff),
+        b'n' => read_word(s, c, b"navy", 0x000080_ff),
+        b'o' => read_word(s, c, b"olive", 0x808000_ff),
+        b'p' => read_word(s, c, b"purple", 0x800080_ff),
+        b'r' => read_word(s, c, b"red", 0xff0000_ff),
+        b's' => read_word(s, c, b"silver", 0xc0c0c0_ff),
+        b't' => read_either(s, c, b"teal", 0x008080_ff, b"transparent", 0x000000_00),
+        b'w' => read_word(s, c, b"white", 0xffffff_ff),
+        b'y' => read_word(s, c, b"yellow", 0xffff00_ff),
+        _ => ColorRead::Refused,
     }
-    ColorRead::Refused
 }
 
 pub fn read_color(s: &[u8], c: Cursor) -> ColorRead

@@ -1,13 +1,20 @@
 -- `stoplist::read_stops` meets its contract. The invariant is `Done`: the stops in the list and what the items left give are what all the items
 -- give. Assumes nothing.
-use mathlib.Core.Path.{_∙_}
-use Prim.Native.Nat.{_+_, _-_}
+use mathlib.Core.Path.{_≡_, _∙_}
+use mathlib.Core.Bool.{Bool, cond, not, _||_}
+use mathlib.Core.Logic.{⊎-elim}
+use Prim.Native.Nat.{ℕ, _+_, _-_}
 use native.Mathlib.Omega.{arith}
-use lib.ListN.{length}
+use lib.Dec.{ltb}
+use lib.ListN.{length, set}
 use borrow.Author.Needs.{needs}
+use borrow.Author.Tests.{lt-ltb, le-ltb}
+use Rattle.gradient.specs.Range.{stopIn}
+use Rattle.gradient.specs.declared.Stop.{Stop}
 use Rattle.text.proofs.Laws.{seen}
 use Rattle.tokens.specs.Number.{cut}
-use Rattle.stoplist.specs.View.{viewStop}
+use Rattle.stoplist.specs.declared.StopList.{StopList}
+use Rattle.stoplist.specs.View.{viewStop, added}
 use Rattle.stoplist.proofs.Laws.{Done, done-none, done-more, done-refused, done-few, done-enough}
 use Rattle.stoplist.proofs.read_stops.Statement.{statement}
 use Rattle.stoplist.proofs.read_stops.Tie as tie
@@ -17,6 +24,15 @@ Inv-loop s from list₀ at₀ list at = Done cut s from at list
 
 abbrev μ-loop : tie.MeasureT-loop
 μ-loop s from list₀ at₀ list at = length s + 1 - at
+
+-- a list with one stop more in its places, if there is room, and the rest as it was
+abbrev stored : StopList → Stop → StopList
+stored t s = record { stops = cond (ltb (t .count) 16) (set (t .stops) (t .count) s) (t .stops); count = t .count; wide = t .wide }
+
+one-stored : (t : StopList) (s : Stop) {u : StopList} {n : ℕ} {b : Bool} → u ≡ stored t s → n ≡ cond (ltb (t .count) 16) (t .count + 1) 17 → b ≡ (u .wide || not (stopIn s))
+    → _≡_ {A = StopList} (record { stops = u .stops; count = n; wide = b }) (added t s)
+unfolding added
+one-stored t s p q r = rw (r, p, q)
 
 blank-list-requires : tie.Need-blank-list-requires Inv-loop μ-loop
 blank-list-requires c κs = search needs
@@ -55,29 +71,46 @@ returns c =
     done-refused cut _ _ (at .before .before .loop .inv) (at .before .loop-test .taken) (at .find-comma .ensures)
     (seen (viewStop _) (c .before .enum-told .given .1) (c .before .before .before .whole-stop .ensures))
 
-add-stop-requires : tie.Need-add-stop-requires Inv-loop μ-loop
-add-stop-requires c κs = search needs
+cast-i : tie.Need-cast-i Inv-loop μ-loop
+cast-i c = search needs
+
+mul-stop : tie.Need-mul-stop Inv-loop μ-loop
+mul-stop c = search needs
+
+element-set-from-stop : tie.Need-element-set-from-stop Inv-loop μ-loop
+element-set-from-stop c = search needs
+
+one-more-requires : tie.Need-one-more-requires Inv-loop μ-loop
+one-more-requires c κs = search needs
+
+still-wide-requires : tie.Need-still-wide-requires Inv-loop μ-loop
+still-wide-requires c κs = search needs
 
 add-at : tie.Need-add-at Inv-loop μ-loop
-add-at c = omega (arith, c .before .before .before .before .before .before .find-comma .ensures .within)
+add-at c = omega (arith, c .before .before .before .before .before .before .before .before .find-comma .ensures .within)
 
 loop-less : tie.Need-loop-less Inv-loop μ-loop
-loop-less c = let m = c .before .before .before .before .before .before .find-comma .ensures in omega (arith, m .order, m .within)
+loop-less c = let m = c .before .before .before .before .before .before .before .before .find-comma .ensures in omega (arith, m .order, m .within)
+
+-- the places, by either way through the test of the count
+placed : (c : tie.Joined1 Inv-loop μ-loop) → c .if1 .list ≡ stored (c .before .before .before .before .before .before .before .before .loop .list) (c .before .before .stop .given .0 .0)
+placed c = ⊎-elim (λ w. w .1 ∙ rw (lt-ltb _ 16 (w .0 .taken))) (λ w. w .1 ∙ rw (le-ltb _ 16 (w .0 .left))) (c .if1 .came)
 
 loop-again : tie.Need-loop-again Inv-loop μ-loop
 loop-again c =
-    let at = c .before .before .before .before .before .before in
+    let at = c .before .before .before .before .before .before .before .before in
     done-more cut _ _ (at .before .before .loop .inv) (at .before .loop-test .taken) (at .find-comma .ensures)
-    (seen (viewStop _) (c .before .before .stop .given .1) (c .before .before .before .before .whole-stop .ensures)) (c .add-stop .ensures)
+    (seen (viewStop _) (c .before .before .before .before .stop .given .1) (c .before .before .before .before .before .before .whole-stop .ensures))
+    (one-stored _ _ (placed (c .before .before)) (c .before .one-more .ensures) (c .still-wide .ensures))
 
 no-listing-requires-2 : tie.Need-no-listing-requires-2 Inv-loop μ-loop
 no-listing-requires-2 c κs = search needs
 
 returns-2 : tie.Need-returns-2 Inv-loop μ-loop
-returns-2 c = c .no-listing2 .ensures ∙ done-few cut _ _ (c .before .before .before .before .loop .inv) (c .before .before .before .loop-test .left) (c .before .if1 .taken)
+returns-2 c = c .no-listing2 .ensures ∙ done-few cut _ _ (c .before .before .before .loop .inv) (c .before .before .loop-test .left) (c .before .if2 .taken)
 
 returns-3 : tie.Need-returns-3 Inv-loop μ-loop
-returns-3 c = done-enough cut _ _ (c .before .before .before .loop .inv) (c .before .before .loop-test .left) (c .if1 .left)
+returns-3 c = done-enough cut _ _ (c .before .before .loop .inv) (c .before .loop-test .left) (c .if2 .left)
 
 pub read-stops-spec : {M : Type 1} → statement M
 read-stops-spec =
@@ -96,7 +129,11 @@ read-stops-spec =
     enum-told
     no-listing-requires
     returns
-    add-stop-requires
+    cast-i
+    mul-stop
+    element-set-from-stop
+    one-more-requires
+    still-wide-requires
     add-at
     loop-less
     loop-again

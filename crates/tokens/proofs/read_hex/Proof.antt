@@ -1,59 +1,55 @@
 -- `tokens::read_hex` meets its contract. Assumes nothing.
+use native.Mathlib.Omega.{arith}
 use borrow.Author.Needs.{needs}
 use borrow.Author.Tests.{ne-eqb}
 use Rattle.tokens.specs.Color.{hexOf, hexColor}
+use Rattle.tokens.proofs.Hex.{small-3, small-4, small-6, hex-3, hex-4, hex-6, hex-8}
 use Rattle.tokens.proofs.read_hex.Statement.{statement}
 use Rattle.tokens.proofs.read_hex.Tie as tie
 
-count-hex-requires : tie.Need-count-hex-requires
-count-hex-requires c κs = search needs
+read-hex-digits-requires : tie.Need-read-hex-digits-requires
+read-hex-digits-requires c κs = search needs
 
-hex-color-requires : tie.Need-hex-color-requires
-hex-color-requires c κs = search needs
+mul-from-short : tie.Need-mul-from-short
+mul-from-short c = omega (arith, small-3 (c .before .before .before .read-hex-digits .ensures) (c .before .match .keys1))
 
-channel-requires : tie.Need-channel-requires
-channel-requires c κs = search needs
+add-from-short : tie.Need-add-from-short
+add-from-short c = omega (arith, small-3 (c .before .before .before .read-hex-digits .ensures) (c .before .match .keys1))
 
-hex-color-requires-2 : tie.Need-hex-color-requires-2
-hex-color-requires-2 c κs = search needs
+from-short-requires : tie.Need-from-short-requires
+from-short-requires c κs = omega (arith, small-3 (c .before .before .before .read-hex-digits .ensures) (c .before .match .keys1))
 
-hex-color-requires-3 : tie.Need-hex-color-requires-3
-hex-color-requires-3 c κs = search needs
+from-short-requires-2 : tie.Need-from-short-requires-2
+from-short-requires-2 c κs = small-4 (c .before .before .read-hex-digits .ensures) (c .match .keys2)
 
-channel-requires-2 : tie.Need-channel-requires-2
-channel-requires-2 c κs = search needs
+mul-from-rgba : tie.Need-mul-from-rgba
+mul-from-rgba c = omega (arith, small-6 (c .before .before .before .read-hex-digits .ensures) (c .before .match .keys3))
 
-hex-color-requires-4 : tie.Need-hex-color-requires-4
-hex-color-requires-4 c κs = search needs
+add-from-rgba : tie.Need-add-from-rgba
+add-from-rgba c = omega (arith, small-6 (c .before .before .before .read-hex-digits .ensures) (c .before .match .keys3))
+
+from-rgba-requires : tie.Need-from-rgba-requires
+from-rgba-requires c κs = search needs
+
+from-rgba-requires-2 : tie.Need-from-rgba-requires-2
+from-rgba-requires-2 c κs = search needs
 
 returns : tie.Need-returns
-unfolding hexOf hexColor
-returns c =
-    let h = c .before .before .before .count-hex .ensures in
-    rw (← h .count, c .before .match .keys1, ← h .rest, c .hex-color .ensures)
+returns c = hex-3 (c .before .before .before .before .read-hex-digits .ensures) (c .before .before .match .keys1) (c .from-short .ensures)
 
 returns-2 : tie.Need-returns-2
-unfolding hexOf hexColor
-returns-2 c =
-    let h = c .before .before .before .before .count-hex .ensures in
-    rw (← h .count, c .before .before .match .keys2, ← h .rest, c .hex-color2 .ensures, c .before .channel .ensures)
+returns-2 c = hex-4 (c .before .before .before .read-hex-digits .ensures) (c .before .match .keys2) (c .from-short2 .ensures)
 
 returns-3 : tie.Need-returns-3
-unfolding hexOf hexColor
-returns-3 c =
-    let h = c .before .before .before .count-hex .ensures in
-    rw (← h .count, c .before .match .keys3, ← h .rest, c .hex-color3 .ensures)
+returns-3 c = hex-6 (c .before .before .before .before .read-hex-digits .ensures) (c .before .before .match .keys3) (c .from-rgba .ensures)
 
 returns-4 : tie.Need-returns-4
-unfolding hexOf hexColor
-returns-4 c =
-    let h = c .before .before .before .before .count-hex .ensures in
-    rw (← h .count, c .before .before .match .keys4, ← h .rest, c .hex-color4 .ensures, c .before .channel2 .ensures)
+returns-4 c = hex-8 (c .before .before .before .read-hex-digits .ensures) (c .before .match .keys4) (c .from-rgba2 .ensures)
 
 returns-5 : tie.Need-returns-5
 unfolding hexOf hexColor
 returns-5 c =
-    let h = c .before .before .count-hex .ensures in
+    let h = c .before .before .read-hex-digits .ensures in
     let other = c .match .rest in
     rw (← h .count, ne-eqb _ 3 (other .0 .0 .0 .1), ne-eqb _ 4 (other .0 .0 .1), ne-eqb _ 6 (other .0 .1), ne-eqb _ 8 (other .1))
 
@@ -61,13 +57,15 @@ pub read-hex-spec : {M : Type 1} → statement M
 read-hex-spec =
     tie.close
     (tie.spec
-    count-hex-requires
-    hex-color-requires
-    channel-requires
-    hex-color-requires-2
-    hex-color-requires-3
-    channel-requires-2
-    hex-color-requires-4
+    read-hex-digits-requires
+    mul-from-short
+    add-from-short
+    from-short-requires
+    from-short-requires-2
+    mul-from-rgba
+    add-from-rgba
+    from-rgba-requires
+    from-rgba-requires-2
     returns
     returns-2
     returns-3
