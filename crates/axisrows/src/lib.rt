@@ -32,11 +32,26 @@ fn entries() -> [u32; 2048] {
     [0u32; 2048]
 }
 
+// An entry for each pixel of a small box's side, 256 at most.
+fn few_entries() -> [u32; 256] {
+    [0u32; 256]
+}
+
 // ---- a level line: every row is the same
 
 // The bytes of the largest box's row.
 fn row_bytes() -> [u8; 8192] {
     [0u8; 8192]
+}
+
+// The bytes of a small box's row.
+fn few_bytes() -> [u8; 1024] {
+    [0u8; 1024]
+}
+
+// Room for the bytes of two or more rows of a small box.
+fn block_bytes() -> [u8; 2048] {
+    [0u8; 2048]
 }
 
 // Writes the entries' bytes, pixel by pixel of a row.
@@ -80,10 +95,47 @@ fn copy_times(buf: &mut [u8], bytes: &[u8], n: usize)
     }
 }
 
-// Draws rows a up to b with a table for the columns and bytes for a row.
+// The same with a block of k copies, from which most are made at once.
+fn copy_blocks(buf: &mut [u8], block: &mut [u8], k: usize, bytes: &[u8], n: usize)
+    requires { ⌜ (0 < k) × (length (now block) ≡ length (now bytes) * k) × (length (now bytes) * n ≤ length (now buf)) ⌝ }
+    ensures { λ _. ⌜ now (buf .exit) ≡ patched (now (buf .entry)) 0 (copies n (now (bytes .entry))) ⌝ }
+{
+    copy_times(block, bytes, k);
+    copy_times(buf, block, n / k);
+    let o = block.len() * (n / k);
+    let rest = bytes.len() * (n % k);
+    copy_in(buf, o, &block[..rest]);
+}
+
+// Draws n rows of a small box with the entries' bytes, by blocks. Here and below what is copied from is an array of the function's own: a compiler
+// then knows that the buffer is apart from it, and copies each block or row in one call.
+fn rows_small(t: &[u32], back: bool, w: usize, n: usize, buf: &mut [u8])
+    requires { ⌜ (w ≤ length (now t)) × (0 < w) × (w ≤ 256) × (0 < n) × (4 * w * n ≤ length (now buf)) ⌝ }
+    ensures { λ _. ⌜ now (buf .exit) ≡ patched (now (buf .entry)) 0 (copies n (row (byColumn (now (t .entry)) back w) w 0)) ⌝ }
+{
+    let mut bytes = few_bytes();
+    let mut block = block_bytes();
+    let m = 4 * w;
+    let k = picture::at_most(2048 / m, n);
+    let size = m * k;
+    write_row(t, back, w, &mut bytes[..m]);
+    copy_blocks(buf, &mut block[..size], k, &bytes[..m], n);
+}
+
+// Draws n rows of any box with the entries' bytes, one by one.
+fn rows_large(t: &[u32], back: bool, w: usize, n: usize, buf: &mut [u8])
+    requires { ⌜ (w ≤ length (now t)) × (w ≤ 2048) × (4 * w * n ≤ length (now buf)) ⌝ }
+    ensures { λ _. ⌜ now (buf .exit) ≡ patched (now (buf .entry)) 0 (copies n (row (byColumn (now (t .entry)) back w) w 0)) ⌝ }
+{
+    let mut bytes = row_bytes();
+    let m = 4 * w;
+    write_row(t, back, w, &mut bytes[..m]);
+    copy_times(buf, &bytes[..m], n);
+}
+
+// Draws rows a up to b with a table for the columns.
 fn level_with(
     t: &mut [u32],
-    bytes: &mut [u8],
     positions: &[u32],
     values: &[u32],
     v: HeldVector,
@@ -93,12 +145,51 @@ fn level_with(
     b: usize,
     buf: &mut [u8],
 )
-    requires { ⌜ (length (now t) ≡ w) × (length (now bytes) ≡ 4 * w) × Drawable (now positions) (now values) (Line.Straight v) w h × Strip w h a b (length (now buf)) × (v .y ≡ 0) ⌝ }
+    requires { ⌜ (length (now t) ≡ w) × Drawable (now positions) (now values) (Line.Straight v) w h × Strip w h a b (length (now buf)) × (v .y ≡ 0) ⌝ }
     ensures { λ _. ⌜ now (buf .exit) ≡ patched (now (buf .entry)) 0 (strip (lentPixel (now (positions .entry)) (now (values .entry)) (Line.Straight v) w h) w a b) ⌝ }
 {
     table::fill_spaced(t, positions, values, 32, 64);
-    write_row(t, v.left, w, bytes);
-    copy_times(buf, bytes, b - a);
+    if w <= 256 {
+        rows_small(t, v.left, w, b - a, buf);
+    } else {
+        rows_large(t, v.left, w, b - a, buf);
+    }
+}
+
+// Draws rows a up to b where a small box's line is level, from the buffer's start on.
+fn level_small(
+    positions: &[u32],
+    values: &[u32],
+    v: HeldVector,
+    w: usize,
+    h: usize,
+    a: usize,
+    b: usize,
+    buf: &mut [u8],
+)
+    requires { ⌜ Drawable (now positions) (now values) (Line.Straight v) w h × Strip w h a b (length (now buf)) × (v .y ≡ 0) × (w ≤ 256) ⌝ }
+    ensures { λ _. ⌜ now (buf .exit) ≡ patched (now (buf .entry)) 0 (strip (lentPixel (now (positions .entry)) (now (values .entry)) (Line.Straight v) w h) w a b) ⌝ }
+{
+    let mut t = few_entries();
+    level_with(&mut t[..w], positions, values, v, w, h, a, b, buf);
+}
+
+// The same in any box.
+fn level_large(
+    positions: &[u32],
+    values: &[u32],
+    v: HeldVector,
+    w: usize,
+    h: usize,
+    a: usize,
+    b: usize,
+    buf: &mut [u8],
+)
+    requires { ⌜ Drawable (now positions) (now values) (Line.Straight v) w h × Strip w h a b (length (now buf)) × (v .y ≡ 0) ⌝ }
+    ensures { λ _. ⌜ now (buf .exit) ≡ patched (now (buf .entry)) 0 (strip (lentPixel (now (positions .entry)) (now (values .entry)) (Line.Straight v) w h) w a b) ⌝ }
+{
+    let mut t = entries();
+    level_with(&mut t[..w], positions, values, v, w, h, a, b, buf);
 }
 
 // Draws rows a up to b where the line is level, from the buffer's start on.
@@ -115,21 +206,11 @@ pub fn draw_level(
     requires { ⌜ Drawable (now positions) (now values) (Line.Straight v) w h × Strip w h a b (length (now buf)) × (v .y ≡ 0) ⌝ }
     ensures { λ _. ⌜ now (buf .exit) ≡ patched (now (buf .entry)) 0 (strip (lentPixel (now (positions .entry)) (now (values .entry)) (Line.Straight v) w h) w a b) ⌝ }
 {
-    let mut t = entries();
-    let mut bytes = row_bytes();
-    let n = 4 * w;
-    level_with(
-        &mut t[..w],
-        &mut bytes[..n],
-        positions,
-        values,
-        v,
-        w,
-        h,
-        a,
-        b,
-        buf,
-    );
+    if w <= 256 {
+        level_small(positions, values, v, w, h, a, b, buf);
+    } else {
+        level_large(positions, values, v, w, h, a, b, buf);
+    }
 }
 
 // ---- an upright line: every row is one pixel over and over
@@ -184,8 +265,27 @@ fn upright_with(
     draw_entries(t, v.up, w, a, b, buf);
 }
 
-// Draws rows a up to b where the line is upright, from the buffer's start on.
-pub fn draw_upright(
+// Draws few rows, a up to b, where the line is upright, from the buffer's start on.
+fn upright_small(
+    positions: &[u32],
+    values: &[u32],
+    v: HeldVector,
+    w: usize,
+    h: usize,
+    a: usize,
+    b: usize,
+    buf: &mut [u8],
+)
+    requires { ⌜ Drawable (now positions) (now values) (Line.Straight v) w h × Strip w h a b (length (now buf)) × (v .x ≡ 0) × (b - a ≤ 256) ⌝ }
+    ensures { λ _. ⌜ now (buf .exit) ≡ patched (now (buf .entry)) 0 (strip (lentPixel (now (positions .entry)) (now (values .entry)) (Line.Straight v) w h) w a b) ⌝ }
+{
+    let mut t = few_entries();
+    let n = b - a;
+    upright_with(&mut t[..n], positions, values, v, w, h, a, b, buf);
+}
+
+// The same with any number of rows.
+fn upright_large(
     positions: &[u32],
     values: &[u32],
     v: HeldVector,
@@ -201,4 +301,25 @@ pub fn draw_upright(
     let mut t = entries();
     let n = b - a;
     upright_with(&mut t[..n], positions, values, v, w, h, a, b, buf);
+}
+
+// Draws rows a up to b where the line is upright, from the buffer's start on.
+pub fn draw_upright(
+    positions: &[u32],
+    values: &[u32],
+    v: HeldVector,
+    w: usize,
+    h: usize,
+    a: usize,
+    b: usize,
+    buf: &mut [u8],
+)
+    requires { ⌜ Drawable (now positions) (now values) (Line.Straight v) w h × Strip w h a b (length (now buf)) × (v .x ≡ 0) ⌝ }
+    ensures { λ _. ⌜ now (buf .exit) ≡ patched (now (buf .entry)) 0 (strip (lentPixel (now (positions .entry)) (now (values .entry)) (Line.Straight v) w h) w a b) ⌝ }
+{
+    if b - a <= 256 {
+        upright_small(positions, values, v, w, h, a, b, buf);
+    } else {
+        upright_large(positions, values, v, w, h, a, b, buf);
+    }
 }

@@ -1,14 +1,16 @@
 -- The squares of columns and rows: how large they are, how a list of them is filled, and the locations that their sums have as roots.
 -- Assumes nothing.
-use mathlib.Core.Path.{_≡_, ap, _∙_}
+use mathlib.Core.Path.{_≡_, sym, ap, _∙_}
 use mathlib.Core.List.{List}
 use Prim.Native.Nat.{ℕ, _+_, _*_, _≤_, _<_}
 use native.Mathlib.Nat.{mul-le-mul}
 use native.Mathlib.Decide.{decLe}
 use native.Mathlib.Omega.{arith}
+use lib.IntN.{natAbs}
 use lib.ListN.{length, getD, set}
 use lib.Seq.{getD-set-same, getD-set-other}
 use Rattle.numbers.specs.Held.{offset, unheld}
+use Rattle.numbers.specs.Fraction.{distance}
 use Rattle.numbers.proofs.Integers.{diff-of, diff-abs}
 use Rattle.root.specs.Root.{rootOf}
 use Rattle.line.specs.Location.{locationBy, squared}
@@ -18,6 +20,21 @@ use Rattle.line.specs.declared.HeldCenter.{HeldCenter}
 use Rattle.line.proofs.Circles.{from-held, from-below}
 use Rattle.circleroots.specs.Squares.{squareOf, Measured}
 
+-- how far the held coordinate is from m, in counts
+pub from-is : (c m : ℕ) → from (unheld c) m ≡ distance (m + offset) c
+from-is c m = sym (from-held c m) ∙ ap natAbs (diff-of (m + offset) c) ∙ diff-abs (m + offset) c
+
+-- rows next to each other are at most 64 units nearer or farther
+pub from-next : (c m j : ℕ) → m + 1 ≡ j → (from (unheld c) (64 * m + 32) ≤ from (unheld c) (64 * j + 32) + 64) × (from (unheld c) (64 * j + 32) ≤ from (unheld c) (64 * m + 32) + 64)
+from-next c m j e = rw (from-is c (64 * m + 32), from-is c (64 * j + 32)) (omega arith, omega arith)
+
+-- .. nearer before the center, and farther after it
+pub from-toward : (c m j : ℕ) → m + 1 ≡ j → 64 * j + offset < c → from (unheld c) (64 * j + 32) ≤ from (unheld c) (64 * m + 32)
+from-toward c m j e h = rw (from-is c (64 * m + 32), from-is c (64 * j + 32)) (omega arith)
+
+pub from-away : (c m j : ℕ) → m + 1 ≡ j → c ≤ 64 * j + offset → from (unheld c) (64 * m + 32) ≤ from (unheld c) (64 * j + 32)
+from-away c m j e h = rw (from-is c (64 * m + 32), from-is c (64 * j + 32)) (omega arith)
+
 pub square-below : (c i : ℕ) → c < 67108864 → i < 2048 → squareOf c i < 4503599627370496
 square-below c i h k =
     let f : from (unheld c) (64 * i + 32) ≤ 67108863 = omega (arith, from-below c (64 * i + 32) h (omega arith)) in
@@ -26,15 +43,7 @@ square-below c i h k =
 -- rows on both sides of a held coordinate, as far from it
 pub square-mirrored : (c j m : ℕ) → 33554432 + 32 * (m + j + 1) ≡ c → squareOf c j ≡ squareOf c m
 square-mirrored c j m e =
-    let f : from (unheld c) (64 * j + 32) ≡ from (unheld c) (64 * m + 32) =
-    rw (
-      ← from-held c (64 * j + 32),
-      ← from-held c (64 * m + 32),
-      diff-of (64 * j + 32 + offset) c,
-      diff-of (64 * m + 32 + offset) c,
-      diff-abs (64 * j + 32 + offset) c,
-      diff-abs (64 * m + 32 + offset) c,
-    ) (omega arith) in
+    let f : from (unheld c) (64 * j + 32) ≡ from (unheld c) (64 * m + 32) = rw (from-is c (64 * j + 32), from-is c (64 * m + 32)) (omega arith) in
     ap squared f
 
 -- one more of a list of f's numbers

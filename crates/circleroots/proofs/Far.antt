@@ -1,4 +1,4 @@
--- Roots far from the center need no test: from those of the two rows before, the next one is among four numbers.
+-- Roots from those of rows before: among four numbers far from the center, among 16 nearer to it, and among 65 anywhere.
 -- Assumes nothing.
 use mathlib.Core.Path.{_≡_, ap}
 use Prim.Native.Nat.{ℕ, _+_, _-_, _*_, _/_, _%_, _≤_, _<_}
@@ -7,10 +7,12 @@ use native.Mathlib.Decide.{decLe}
 use native.Mathlib.Omega.{arith}
 use Rattle.numbers.specs.Held.{offset, unheld}
 use Rattle.numbers.specs.Fraction.{distance}
+use Rattle.root.specs.Root.{IsRoot}
 use Rattle.root.proofs.Laws.{root-le}
 use Rattle.line.specs.Circle.{from}
-use Rattle.circleroots.proofs.Sure.{from-is}
-use Rattle.circleroots.specs.Squares.{squareOf}
+use Rattle.circleroots.proofs.Columns.{from-is}
+use Rattle.line.specs.declared.HeldCenter.{HeldCenter}
+use Rattle.circleroots.specs.Squares.{squareOf, Nearest, Short}
 
 -- p, q and g are roots or a guess; x, y and z are the numbers of three rows, whose second difference is 2·64²
 low-near : (p q g x y z k u : ℕ) → p ≡ k + 63 → q ≡ k + u → g + 64 ≡ k + 2 * u → u ≤ 128 → q * q ≤ y → x < (p + 1) * (p + 1)
@@ -22,25 +24,32 @@ low-near p q g x y z k u ep eq eg h hy hx e =
 low-steep : (q g x y z v : ℕ) → q ≡ v + 64 → g ≤ v → q * q ≤ y → x ≤ y + 128 * q + 4096 → x + z ≡ 2 * y + 8192 → g * g ≤ z
 low-steep q g x y z v eq h hy hx e = omega (arith, mul-le-mul h h, ap (λ (m : ℕ). m * m) eq)
 
-thrice : (n : ℕ) → 3 * n ≤ n * n + 6
-thrice n = either (decLe 3 n)
+-- small numbers beside their squares
+beside : (n : ℕ) → (3 * n ≤ n * n + 6) × (15 * n ≤ n * n + 210)
+beside n = (three (decLe 3 n), fifteen (decLe 15 n))
   where
-    either : Dec (3 ≤ n) → 3 * n ≤ n * n + 6
-    either (yes h) = let k : 3 * n ≤ n * n = mul-le-mul h (omega arith) in omega arith
-    either (no h) = omega arith
+    three : Dec (3 ≤ n) → 3 * n ≤ n * n + 6
+    three (yes h) = let k : 3 * n ≤ n * n = mul-le-mul h (omega arith) in omega arith
+    three (no h) = omega arith
 
-high-away : (p q g x y z a : ℕ) → q ≡ p + a → g + 1 ≡ p + 2 * a → 4098 ≤ q → p * p ≤ x → y < (q + 1) * (q + 1)
-    → x + z ≡ 2 * y + 8192 → z < (g + 4) * (g + 4)
-high-away p q g x y z a eq eg far hx hy e = omega (arith, ap (λ (m : ℕ). m * m) eq, ap (λ (m : ℕ). m * m) eg)
+    fifteen : Dec (15 ≤ n) → 15 * n ≤ n * n + 210
+    fifteen (yes h) = let k : 15 * n ≤ n * n = mul-le-mul h (omega arith) in omega arith
+    fifteen (no h) = omega arith
 
-high-toward : (p q g x y z b : ℕ) → p ≡ g + 2 * b + 1 → q ≡ g + b + 1 → 4098 ≤ q → p * p ≤ x → y < (q + 1) * (q + 1)
-    → x + z ≡ 2 * y + 8192 → z < (g + 4) * (g + 4)
-high-toward p q g x y z b ep eq far hx hy e =
-    omega (arith, thrice b, ap (λ (m : ℕ). m * m) ep, ap (λ (m : ℕ). m * m) eq)
+module _ (p q g x y z : ℕ) (px : p * p ≤ x) (yq : y < (q + 1) * (q + 1)) (e : x + z ≡ 2 * y + 8192) where
+  high-away : (a : ℕ) → q ≡ p + a → g + 1 ≡ p + 2 * a → (4098 ≤ q → z < (g + 4) * (g + 4)) × (383 ≤ q → z < (g + 16) * (g + 16))
+  high-away a eq eg =
+      (λ far. omega (arith, ap (λ (m : ℕ). m * m) eq, ap (λ (m : ℕ). m * m) eg), λ far. omega (arith, ap (λ (m : ℕ). m * m) eq, ap (λ (m : ℕ). m * m) eg))
+
+  high-toward : (b : ℕ) → p ≡ g + 2 * b + 1 → q ≡ g + b + 1 → (4098 ≤ q → z < (g + 4) * (g + 4)) × (383 ≤ q → z < (g + 16) * (g + 16))
+  high-toward b ep eq = (
+    λ far. omega (arith, beside b .0, ap (λ (m : ℕ). m * m) ep, ap (λ (m : ℕ). m * m) eq),
+    λ far. omega (arith, beside b .1, ap (λ (m : ℕ). m * m) ep, ap (λ (m : ℕ). m * m) eq),
+  )
 
 -- ---- p and q are the roots of two rows, g one less than the root after them, were all as far apart
 module _ (p q g x y z : ℕ) (guess : g + p + 1 ≡ 2 * q) (px : p * p ≤ x) (xp : x < (p + 1) * (p + 1)) (qy : q * q ≤ y) (yq : y < (q + 1) * (q + 1))
-    (e : x + z ≡ 2 * y + 8192) (far : 4098 ≤ q) (xy : x ≤ y + 128 * q + 4096) (yx : y ≤ x + 128 * p + 4096) where
+    (e : x + z ≡ 2 * y + 8192) (some : 383 ≤ q) (xy : x ≤ y + 128 * q + 4096) (yx : y ≤ x + 128 * p + 4096) where
   steps : q ≤ p + 65
   steps = root-le 1 y q (p + 65) (omega arith) (omega arith)
 
@@ -51,18 +60,32 @@ module _ (p q g x y z : ℕ) (guess : g + p + 1 ≡ 2 * q) (px : p * p ≤ x) (x
       either (yes h) = low-near p q g x y z (p - 63) (q + 63 - p) (omega (arith, steps)) (omega (arith, steps)) (omega (arith, steps)) (omega (arith, steps)) qy xp e
       either (no h) = low-steep q g x y z (q - 64) (omega arith) (omega arith) qy xy e
 
-  pub not-below : z < (g + 4) * (g + 4)
+  pub not-below : (4098 ≤ q → z < (g + 4) * (g + 4)) × (383 ≤ q → z < (g + 16) * (g + 16))
   not-below = either (decLe p q)
     where
-      either : Dec (p ≤ q) → z < (g + 4) * (g + 4)
-      either (yes h) = high-away p q g x y z (q - p) (omega arith) (omega arith) far px yq e
-      either (no h) = high-toward p q g x y z (p - q) (omega arith) (omega arith) far px yq e
+      either : Dec (p ≤ q) → (4098 ≤ q → z < (g + 4) * (g + 4)) × (383 ≤ q → z < (g + 16) * (g + 16))
+      either (yes h) = high-away p q g x y z px yq e (q - p) (omega arith) (omega arith)
+      either (no h) = high-toward p q g x y z px yq e (p - q) (omega arith) (omega arith)
 
--- b² plus at most 2b is z where they agree in their low halves, and both lie between the same two squares
-pub exact : (g b t z : ℕ) → g * g ≤ z → z < (g + 4) * (g + 4) → g < 134217728 → g ≤ b → b ≤ g + 3 → t ≤ 2 * b
-    → (t + b * b) % 4294967296 ≡ z % 4294967296 → t + b * b ≡ z
-exact g b t z low high small gb bg few same =
-    omega (arith, mul-le-mul gb gb, mul-le-mul bg bg)
+-- ---- the next row's root from that of one row: s is the square of the column, f and k are how far the center is from the two rows, r is the first root
+module _ (s f k r : ℕ) (root : IsRoot 1 (s + f * f) r) where
+  pub next-away : f ≤ k → k ≤ f + 64 → (r * r ≤ s + k * k) × (s + k * k < (r + 65) * (r + 65))
+  next-away fk kf =
+      let fr : f ≤ r = root-le 1 (s + f * f) f r (omega arith) (root .high) in
+      (omega (arith, root .low, mul-le-mul fk fk), omega (arith, root .high, mul-le-mul kf kf))
+
+  pub next-toward : k ≤ f → f ≤ k + 64 → ((r - 64) * (r - 64) ≤ s + k * k) × (s + k * k < (r - 64 + 65) * (r - 64 + 65))
+  next-toward kf fk = (
+    low (decLe (r - 64) k),
+    let m : r + 1 ≤ r - 64 + 65 = omega arith in omega (arith, root .high, mul-le-mul kf kf, mul-le-mul m m),
+  )
+    where
+      low : Dec (r - 64 ≤ k) → (r - 64) * (r - 64) ≤ s + k * k
+      low (yes h) = omega (arith, mul-le-mul h h)
+      low (no h) =
+          let v : ℕ = r - 64 in
+          let e : r ≡ v + 64 = omega arith in
+          omega (arith, root .low, mul-le-mul fk fk, ap (λ (m : ℕ). m * m) e)
 
 -- ---- three rows
 away : (f g h : ℕ) → g ≡ f + 64 → h ≡ f + 128 → f * f + h * h ≡ 2 * (g * g) + 8192
@@ -105,3 +128,25 @@ farthest c w k i y b e p first last = either (decLe c (64 * i + 32 + offset))
     either : Dec (c ≤ 64 * i + 32 + offset) → squareOf c i + y < b
     either (yes h) = omega (arith, square-le c i k (omega arith))
     either (no h) = omega (arith, square-le c i 0 (omega arith))
+
+-- columns more than k from column m, the nearest of w
+module _ (c w m k : ℕ) (h : Nearest c w m) (i : ℕ) where
+  square-from : 64 * k ≤ distance (64 * i + 32 + offset) c → 64 * k * (64 * k) ≤ squareOf c i
+  square-from l =
+      let f : 64 * k ≤ from (unheld c) (64 * i + 32) = rw (from-is c (64 * i + 32)) l in
+      mul-le-mul f f
+
+  pub beyond-before : i < m - k → 64 * k * (64 * k) ≤ squareOf c i
+  beyond-before l = square-from (omega (arith, h .before (omega arith)))
+
+  pub beyond-after : i < w → m + k < i → 64 * k * (64 * k) ≤ squareOf c i
+  beyond-after p l = square-from (omega (arith, h .after (omega arith)))
+
+-- where the nearest column is near in a row, its numbers are below 2^43
+pub near-short : (c : HeldCenter) (w j m : ℕ) → Nearest (c .x) w m → w ≤ 2048 → squareOf (c .x) m + squareOf (c .y) j < 17842176 → Short c w j
+near-short c w j m h width near i p =
+    let f : ℕ = from (unheld (c .x)) (64 * m + 32) in
+    let a : f ≤ 4224 = root-le 1 (f * f) f 4224 (omega arith) (omega arith) in
+    let b : from (unheld (c .x)) (64 * i + 32) ≤ 135296 =
+    rw (from-is (c .x) (64 * i + 32)) (let a′ : distance (64 * m + 32 + offset) (c .x) ≤ 4224 = rw (← from-is (c .x) (64 * m + 32)) a in omega (arith, h .within)) in
+    omega (arith, mul-le-mul b b)

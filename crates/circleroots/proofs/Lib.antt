@@ -1,5 +1,5 @@
 pub mod Columns
 pub mod Far
-pub mod FarRows
+pub mod Parts
+pub mod Rows
 pub mod Guesses
-pub mod Sure

@@ -44,28 +44,35 @@ pub record Within (base n w : ℕ) (l : List ℕ) : Type 0 where
   pub low : (i : ℕ) → i < w → base ≤ getD l i 0
   pub high : (i : ℕ) → i < w → getD l i 0 < base + n
 
--- a number with this low half, if it is near g², is at least g² and below (g + 4)²
-pub record Close (low g : ℕ) : Type 0 where
-  pub over : ℕ
-  pub is : (over + g * g) % 4294967296 ≡ low
-  pub few : over ≤ 8 * g + 15
-  pub small : g < 134217728
+-- ---- parts of a row: columns a up to b
+-- the list has the locations of these pixels of row j
+abbrev pub Part : HeldCenter → ℕ → ℕ → ℕ → List ℕ → Type 0
+Part c j a b l = (i : ℕ) → a ≤ i → i < b → getD l i 0 ≡ locationBy (circleRule (centerIn c)) i j
 
--- .. and b, which is g or one of the three numbers after it, is its root
-pub record Corrected (low g b : ℕ) : Type 0 where
-  pub over : ℕ
-  pub is : (over + b * b) % 4294967296 ≡ low
-  pub few : over ≤ 2 * b
-  pub from : g ≤ b
-  pub below : b ≤ g + 3
+-- the other numbers of the list are as they were
+pub record Kept (a b : ℕ) (old new : List ℕ) : Type 0 where
+  pub before : (i : ℕ) → i < a → getD new i 0 ≡ getD old i 0
+  pub after : (i : ℕ) → b ≤ i → getD new i 0 ≡ getD old i 0
 
--- .. and g is near the root of the row before, and among the n numbers from `base` on
-pub record Passed (low g last base n : ℕ) : Type 0 where
-  pub close : Close low g
-  pub after : g ≤ last + 128
-  pub before : last ≤ g + 128
-  pub from : base ≤ g
-  pub below : g < base + n
+-- .. and where `last` has the locations of the row before row j, and `old` those of the row before that, the list has those of row j
+pub record Follows (c : HeldCenter) (j a b : ℕ) (last old new : List ℕ) : Type 0 where
+  pub kept : Kept a b old new
+  pub part : (k l : ℕ) → k + 2 ≡ j → l + 1 ≡ j → Part c k a b old → Part c l a b last → Part c j a b new
+
+-- .. and their numbers in row j are at least n
+abbrev pub Beyond : HeldCenter → ℕ → ℕ → ℕ → ℕ → Type 0
+Beyond c n j a b = (i : ℕ) → a ≤ i → i < b → n ≤ squareOf (c .x) i + squareOf (c .y) j
+
+-- the numbers of the w columns in row j are below 2^43
+abbrev pub Short : HeldCenter → ℕ → ℕ → Type 0
+Short c w j = (i : ℕ) → i < w → squareOf (c .x) i + squareOf (c .y) j < 8796093022208
+
+-- column m is the one that the held coordinate c lies in, or the nearest of w
+pub record Nearest (c w m : ℕ) : Type 0 where
+  pub within : m < w
+  pub least : (i : ℕ) → i < w → squareOf c m ≤ squareOf c i
+  pub before : 0 < m → 64 * m + 33554432 ≤ c
+  pub after : m + 1 < w → c < 64 * (m + 1) + 33554432
 
 -- what the locations of row j are guessed from, and the lengths of two lists of those of other rows
 pub record Guessable (c : HeldCenter) (w j : ℕ) (low : List ℕ) (p q : ℕ) : Type 0 where

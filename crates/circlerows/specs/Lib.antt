@@ -1,1 +1,1 @@
-pub mod Circular
+pub mod Prepared

@@ -1,4 +1,4 @@
-// Rows of a picture around a circle's center, by guessed locations and a table of colors. The same bytes as by `rows`, sooner.
+// Rows of a picture around a circle's center, by locations that each row is found from those before and a table of colors. The same bytes as by `rows`, sooner.
 use line::HeldCenter;
 use line::Line;
 ghost use mathlib.Core.Path.{_≡_};
@@ -8,13 +8,13 @@ ghost use Prim.Native.Nat.{ℕ, _+_, _*_, _≤_, _<_};
 ghost use lib.ListN.{length, getD};
 ghost use Rattle.line.specs.Box.{Box};
 ghost use Rattle.line.specs.Location.{Rule, locationBy};
-ghost use Rattle.line.specs.Held.{Near, ruleIn};
+ghost use Rattle.line.specs.Held.{ruleIn};
 ghost use Rattle.color.specs.Lent.{Lent, stopsOf};
 ghost use Rattle.picture.specs.Picture.{row, strip, patched};
 ghost use Rattle.rows.specs.Pixel.{pixelOf, lentPixel, Strip};
 ghost use Rattle.table.specs.Table.{Table};
 ghost use Rattle.circleroots.specs.Squares.{Measured, LowHalves, Known, KnownBefore, Within};
-ghost use Rattle.circlerows.specs.Circular.{Circular, Prepared, InTurn, BeforeInTurn};
+ghost use Rattle.circlerows.specs.Prepared.{Prepared, InTurn, BeforeInTurn};
 
 // The location of pixel (i, j). The guess and the two locations before change only the time.
 fn locate(
@@ -88,7 +88,7 @@ fn draw_known(t: &[u32], base: u32, known: &[u32], w: usize, at: usize, buf: &mu
 }
 
 // Draws row j from `at` on, and leaves its locations in place of those of the row two before it. `last` has those of the row before, if the first
-// flag is set; where all guesses then pass their tests, none is looked at again. `before` has those of the row two before, if the second is.
+// flag is set, and `before` those of the row two before, if the second is.
 fn draw_next(
     t: &[u32],
     base: u32,
@@ -111,12 +111,10 @@ fn draw_next(
     ensures { λ _. ⌜ (now (buf .exit) ≡ patched (now (buf .entry)) at (row (lentPixel (now (positions .entry)) (now (values .entry)) (Line.Circle c) w h) w j)) × Known c w j (now (before .exit)) ⌝ }
 {
     let n = t.len() as u32;
-    let failed = circleroots::next_row(before, last, low, both, c, w, j, base, n);
-    if follows {
-        if failed == 0 {
-            draw_known(t, base, before, w, at, buf);
-            return;
-        }
+    let failed = circleroots::next_row(before, last, low, follows, both, c, w, j, base, n);
+    if failed == 0 {
+        draw_known(t, base, before, w, at, buf);
+        return;
     }
     draw_row(
         t,
@@ -198,7 +196,7 @@ fn draw_turn(
 }
 
 // Draws rows a up to b from the buffer's start. A row as far from the center as one before it is copied.
-fn draw_rows(
+pub fn draw_rows(
     t: &[u32],
     base: u32,
     positions: &[u32],
@@ -252,144 +250,5 @@ fn draw_rows(
         }
         o += n;
         j += 1;
-    }
-}
-
-fn columns() -> [u32; 2048] {
-    [0u32; 2048]
-}
-
-fn wide_columns() -> [u64; 2048] {
-    [0u64; 2048]
-}
-
-// Fills a table with the colors from `base` on, and draws rows a up to b with it.
-fn draw_with(
-    t: &mut [u32],
-    base: u32,
-    positions: &[u32],
-    values: &[u32],
-    c: HeldCenter,
-    w: usize,
-    h: usize,
-    a: usize,
-    b: usize,
-    buf: &mut [u8],
-)
-    requires { ⌜ Circular (now positions) (now values) c w h a b (length (now buf)) × (base + length (now t) ≤ 33554432) × (length (now t) < 262144) ⌝ }
-    ensures { λ _. ⌜ now (buf .exit) ≡ patched (now (buf .entry)) 0 (strip (lentPixel (now (positions .entry)) (now (values .entry)) (Line.Circle c) w h) w a b) ⌝ }
-{
-    let mut squares = wide_columns();
-    let mut low = columns();
-    let mut p = columns();
-    let mut q = columns();
-    table::fill(t, positions, values, base);
-    circleroots::fill_squares(&mut squares, &mut low, w, c);
-    draw_rows(
-        t,
-        base,
-        positions,
-        values,
-        &squares,
-        &low,
-        &mut p,
-        &mut q,
-        c,
-        w,
-        h,
-        a,
-        b,
-        buf,
-    );
-}
-
-// The same with a table of n entries, at most 16,384.
-fn draw_small(
-    n: usize,
-    base: u32,
-    positions: &[u32],
-    values: &[u32],
-    c: HeldCenter,
-    w: usize,
-    h: usize,
-    a: usize,
-    b: usize,
-    buf: &mut [u8],
-)
-    requires { ⌜ Circular (now positions) (now values) c w h a b (length (now buf)) × (base ≤ 33000000) × (n ≤ 16384) ⌝ }
-    ensures { λ _. ⌜ now (buf .exit) ≡ patched (now (buf .entry)) 0 (strip (lentPixel (now (positions .entry)) (now (values .entry)) (Line.Circle c) w h) w a b) ⌝ }
-{
-    let mut t = table::small();
-    draw_with(&mut t[..n], base, positions, values, c, w, h, a, b, buf);
-}
-
-// The same with a table of n entries, at most 185,408.
-fn draw_large(
-    n: usize,
-    base: u32,
-    positions: &[u32],
-    values: &[u32],
-    c: HeldCenter,
-    w: usize,
-    h: usize,
-    a: usize,
-    b: usize,
-    buf: &mut [u8],
-)
-    requires { ⌜ Circular (now positions) (now values) c w h a b (length (now buf)) × (base ≤ 33000000) × (n ≤ 185408) ⌝ }
-    ensures { λ _. ⌜ now (buf .exit) ≡ patched (now (buf .entry)) 0 (strip (lentPixel (now (positions .entry)) (now (values .entry)) (Line.Circle c) w h) w a b) ⌝ }
-{
-    let mut t = table::large();
-    draw_with(&mut t[..n], base, positions, values, c, w, h, a, b, buf);
-}
-
-// Of columns or rows a up to b the one that is farthest from a coordinate of the center.
-fn farthest(c: u32, a: usize, b: usize) -> usize
-    requires { ⌜ (a < b) × (b ≤ 2048) ⌝ }
-    ensures { λ r. ⌜ r < b ⌝ }
-{
-    if c <= 33554432 {
-        return b - 1;
-    }
-    let k = ((c - 33554432) / 64) as usize;
-    if k + k < a + b { b - 1 } else { a }
-}
-
-// The location of pixel (i, j).
-fn at_pixel(c: HeldCenter, w: usize, h: usize, i: usize, j: usize) -> u32
-    requires { ⌜ Box w h × Near c × (i < w) × (j < h) ⌝ }
-    ensures { λ r. ⌜ r ≤ 94906265 ⌝ }
-{
-    line::location(Line::Circle(c), w, h, i, j, 0) as u32
-}
-
-// Draws rows a up to b around a circle's center, from the buffer's start.
-pub fn draw_circle(
-    positions: &[u32],
-    values: &[u32],
-    c: HeldCenter,
-    w: usize,
-    h: usize,
-    a: usize,
-    b: usize,
-    buf: &mut [u8],
-)
-    requires { ⌜ Circular (now positions) (now values) c w h a b (length (now buf)) ⌝ }
-    ensures { λ _. ⌜ now (buf .exit) ≡ patched (now (buf .entry)) 0 (strip (lentPixel (now (positions .entry)) (now (values .entry)) (Line.Circle c) w h) w a b) ⌝ }
-{
-    let first = at_pixel(
-        c,
-        w,
-        h,
-        circleroots::nearest(c.x, 0, w),
-        circleroots::nearest(c.y, a, b),
-    );
-    let last = at_pixel(c, w, h, farthest(c.x, 0, w), farthest(c.y, a, b));
-    let n = table::span(first, last);
-    let base = if first <= 33000000 { first } else { 0 };
-    if n <= 16384 {
-        draw_small(n, base, positions, values, c, w, h, a, b, buf);
-    } else {
-        draw_large(n, base, positions, values, c, w, h, a, b, buf);
     }
 }

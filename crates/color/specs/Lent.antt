@@ -45,3 +45,7 @@ pub record Between (ps vs : List ℕ) (i at : ℕ) : Type 0 where
 -- the mix of P and Q at x units from the one and y from the other
 abbrev pub mix : ℕ → ℕ → ℕ → ℕ → Fraction
 mix p q x y = (p * y + q * x) ⁄ (255 * (x + y))
+
+-- r is 2^54 / d or less
+abbrev pub Inverse : ℕ → ℕ → Type 0
+Inverse d r = r * d ≤ 18014398509481984

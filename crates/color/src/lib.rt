@@ -12,7 +12,7 @@ ghost use Rattle.numbers.specs.Fraction.{_⁄_, nearest};
 ghost use Rattle.stops.specs.Check.{placedOf};
 ghost use Rattle.color.specs.Stop.{Channel};
 ghost use Rattle.color.specs.Byte.{rgba, colorAt};
-ghost use Rattle.color.specs.Lent.{Small, Lent, Between, stopsOf, valuesAt, lastUpTo, mix};
+ghost use Rattle.color.specs.Lent.{Small, Lent, Between, stopsOf, valuesAt, lastUpTo, mix, Inverse};
 ghost use Rattle.color.specs.Arrays.{Holdable, positionsOf, fourOf, Values};
 
 // A pixel's four bytes, premultiplied.
@@ -47,12 +47,20 @@ fn stop_byte(p: u32) -> u8
     ((2 * p + 255) / 510) as u8
 }
 
-// n / d: the guess where it is right, else by division.
-fn quotient(n: u64, d: u64, guess: u8) -> u64
-    requires { ⌜ (0 < d) × (d < 2 ^ 48) ⌝ }
+// 2^54 over what a mix at x units from a stop and y from the next is divided by, rounded down.
+fn inverse_of(x: u32, y: u32) -> u64
+    requires { ⌜ 0 < y ⌝ }
+    ensures { λ r. ⌜ Inverse (510 * (x + y)) r ⌝ }
+{
+    18014398509481984 / (510 * ((x as u64) + (y as u64)))
+}
+
+// n / d: by d's inverse where that is near enough, else by division.
+fn quotient(n: u64, d: u64, inverse: u64) -> u64
+    requires { ⌜ (0 < d) × (d < 2 ^ 48) × (n ≤ 256 * d) × Inverse d inverse ⌝ }
     ensures { λ r. ⌜ r ≡ n / d ⌝ }
 {
-    let k = guess as u64;
+    let k = n * inverse / 18014398509481984;
     let e = k * d;
     if e <= n {
         if n < e + d {
@@ -62,14 +70,14 @@ fn quotient(n: u64, d: u64, guess: u8) -> u64
     n / d
 }
 
-// The byte at x units from P's stop and y from Q's. Here and below the guess changes only the time.
-fn mix_byte(p: u32, q: u32, x: u32, y: u32, guess: u8) -> u8
-    requires { ⌜ (p ≤ 65025) × (q ≤ 65025) × (0 < y) ⌝ }
+// The byte at x units from P's stop and y from Q's. Here and below the inverse changes only the time.
+fn mix_byte(p: u32, q: u32, x: u32, y: u32, inverse: u64) -> u8
+    requires { ⌜ (p ≤ 65025) × (q ≤ 65025) × (0 < y) × Inverse (510 * (x + y)) inverse ⌝ }
     ensures { λ r. ⌜ r ≡ nearest (mix p q x y) ⌝ }
 {
     let num = (p as u64) * (y as u64) + (q as u64) * (x as u64);
     let den = 255 * ((x as u64) + (y as u64));
-    quotient(2 * num + den, 2 * den, guess) as u8
+    quotient(2 * num + den, 2 * den, inverse) as u8
 }
 
 // The byte of number k alone.
@@ -81,11 +89,11 @@ fn stop_channel(values: &[u32], k: usize) -> u8
 }
 
 // The byte of number k mixed with number m, the same channel of the next stop.
-fn mix_channel(values: &[u32], k: usize, m: usize, x: u32, y: u32, guess: u8) -> u8
-    requires { ⌜ (k < length (now values)) × (m < length (now values)) × Small (now values) × (0 < y) ⌝ }
+fn mix_channel(values: &[u32], k: usize, m: usize, x: u32, y: u32, inverse: u64) -> u8
+    requires { ⌜ (k < length (now values)) × (m < length (now values)) × Small (now values) × (0 < y) × Inverse (510 * (x + y)) inverse ⌝ }
     ensures { λ r. ⌜ r ≡ nearest (mix (getD (now (values .entry)) k 0) (getD (now (values .entry)) m 0) x y) ⌝ }
 {
-    mix_byte(values[k], values[m], x, y, guess)
+    mix_byte(values[k], values[m], x, y, inverse)
 }
 
 // The bytes of stop i.
@@ -103,32 +111,32 @@ fn at_stop(values: &[u32], i: usize) -> Rgba
 }
 
 // The bytes at x units from stop i and y from the next.
-fn mix_stops(values: &[u32], i: usize, x: u32, y: u32, guess: Rgba) -> Rgba
+fn mix_stops(values: &[u32], i: usize, x: u32, y: u32) -> Rgba
     requires { ⌜ (4 * i + 7 < length (now values)) × Small (now values) × (0 < y) ⌝ }
     ensures { λ r. ⌜ r ≡ rgba (λ (c : Channel). nearest (mix (valuesAt (now (values .entry)) i c) (valuesAt (now (values .entry)) (i + 1) c) x y)) ⌝ }
 {
     let k = 4 * i;
     let m = 4 * (i + 1);
+    let inverse = inverse_of(x, y);
     Rgba {
-        red: mix_channel(values, k, m, x, y, guess.red),
-        green: mix_channel(values, k + 1, m + 1, x, y, guess.green),
-        blue: mix_channel(values, k + 2, m + 2, x, y, guess.blue),
-        alpha: mix_channel(values, k + 3, m + 3, x, y, guess.alpha),
+        red: mix_channel(values, k, m, x, y, inverse),
+        green: mix_channel(values, k + 1, m + 1, x, y, inverse),
+        blue: mix_channel(values, k + 2, m + 2, x, y, inverse),
+        alpha: mix_channel(values, k + 3, m + 3, x, y, inverse),
     }
 }
 
 // The bytes at a location between stop i and the next.
-fn between(positions: &[u32], values: &[u32], i: usize, at: u32, guess: Rgba) -> Rgba
+fn between(positions: &[u32], values: &[u32], i: usize, at: u32) -> Rgba
     requires { ⌜ Between (now positions) (now values) i at ⌝ }
     ensures { λ r. ⌜ r ≡ rgba (λ (c : Channel). nearest (mix (valuesAt (now (values .entry)) i c) (valuesAt (now (values .entry)) (i + 1) c)
         (at - getD (now (positions .entry)) i 0) (getD (now (positions .entry)) (i + 1) 0 - at))) ⌝ }
 {
-    mix_stops(values, i, at - positions[i], positions[i + 1] - at, guess)
+    mix_stops(values, i, at - positions[i], positions[i + 1] - at)
 }
 
-// The color at a location, held, of the placed stops that the two slices hold. A guess near it saves divisions; whatever it is, the answer is the
-// same.
-pub fn color_near(positions: &[u32], values: &[u32], at: u32, guess: Rgba) -> Rgba
+// The color at a location, held, of the placed stops that the two slices hold.
+pub fn color_at(positions: &[u32], values: &[u32], at: u32) -> Rgba
     requires { ⌜ Lent (now positions) (now values) ⌝ }
     ensures { λ r. ⌜ r ≡ colorAt (stopsOf (now (positions .entry)) (now (values .entry))) (unheld at) ⌝ }
 {
@@ -139,24 +147,7 @@ pub fn color_near(positions: &[u32], values: &[u32], at: u32, guess: Rgba) -> Rg
     if place == positions.len() {
         return at_stop(values, place - 1);
     }
-    between(positions, values, place - 1, at, guess)
-}
-
-// Transparent black.
-pub fn clear() -> Rgba {
-    Rgba {
-        red: 0,
-        green: 0,
-        blue: 0,
-        alpha: 0,
-    }
-}
-
-pub fn color_at(positions: &[u32], values: &[u32], at: u32) -> Rgba
-    requires { ⌜ Lent (now positions) (now values) ⌝ }
-    ensures { λ r. ⌜ r ≡ colorAt (stopsOf (now (positions .entry)) (now (values .entry))) (unheld at) ⌝ }
-{
-    color_near(positions, values, at, clear())
+    between(positions, values, place - 1, at)
 }
 
 // ---- the numbers of placed stops
@@ -183,18 +174,16 @@ fn premultiply(c: u8, a: u8) -> u32
     (c as u32) * (a as u32)
 }
 
-// The values with those of stop i stored.
-fn store(values: [u32; 64], i: usize, c: Color) -> [u32; 64]
-    requires { ⌜ (i < 16) × Small values ⌝ }
-    ensures { λ r. ⌜ (take (4 * (i + 1)) r ≡ take (4 * i) values ++ fourOf c []) × Small r ⌝ }
+// Stores the values of stop i.
+fn store(values: &mut [u32], i: usize, c: Color)
+    requires { ⌜ (4 * i + 3 < length (now values)) × Small (now values) ⌝ }
+    ensures { λ _. ⌜ (take (4 * (i + 1)) (now (values .exit)) ≡ take (4 * i) (now (values .entry)) ++ fourOf c []) × Small (now (values .exit)) ⌝ }
 {
-    let mut out = values;
     let k = 4 * i;
-    out[k] = premultiply(c.red, c.alpha);
-    out[k + 1] = premultiply(c.green, c.alpha);
-    out[k + 2] = premultiply(c.blue, c.alpha);
-    out[k + 3] = premultiply(255, c.alpha);
-    out
+    values[k] = premultiply(c.red, c.alpha);
+    values[k + 1] = premultiply(c.green, c.alpha);
+    values[k + 2] = premultiply(c.blue, c.alpha);
+    values[k + 3] = premultiply(255, c.alpha);
 }
 
 // The premultiplied channels of the stops, four numbers to a stop, in the first places.
@@ -207,8 +196,7 @@ pub fn values_of(p: PlacedStops) -> [u32; 64]
     let mut i: usize = 0;
     while i < n {
         let s = p.stops[i];
-        let next = store(values, i, s.color);
-        values = next;
+        store(&mut values, i, s.color);
         i += 1;
     }
     values

@@ -1,4 +1,5 @@
 // Rows of a picture along a straight line, by fixed-point locations and a table of colors. The same bytes as by `rows`, sooner.
+use fixed::RowLine;
 use fixed::Steps;
 use line::HeldVector;
 use line::Line;
@@ -9,14 +10,38 @@ ghost use lib.ListN.{length};
 ghost use Rattle.line.specs.Box.{Box};
 ghost use Rattle.line.specs.Held.{Bounded};
 ghost use Rattle.color.specs.Lent.{Lent};
-ghost use Rattle.picture.specs.Picture.{strip, patched};
+ghost use Rattle.picture.specs.Picture.{row, strip, patched};
 ghost use Rattle.rows.specs.Pixel.{Strip, lentPixel};
-ghost use Rattle.fixed.specs.Steps.{Steady};
+ghost use Rattle.fixed.specs.Steps.{Steady, Follows};
 ghost use Rattle.table.specs.Table.{Table};
 ghost use Rattle.shifted.specs.Shift.{Even, Shifted};
 ghost use Rattle.linerows.specs.Straight.{Straight};
 
-// Draws rows a up to b from the buffer's start, with a table of the colors from `base` on.
+// Draws row j from `at` on: by the table, if it has entries.
+fn draw_row(
+    t: &[u32],
+    base: u32,
+    positions: &[u32],
+    values: &[u32],
+    r: RowLine,
+    v: HeldVector,
+    w: usize,
+    h: usize,
+    j: usize,
+    at: usize,
+    buf: &mut [u8],
+)
+    requires { ⌜ Lent (now positions) (now values) × Table (now positions) (now values) base (now t) × Follows r v w h j × (at + 4 * w ≤ length (now buf)) ⌝ }
+    ensures { λ _. ⌜ now (buf .exit) ≡ patched (now (buf .entry)) at (row (lentPixel (now (positions .entry)) (now (values .entry)) (Line.Straight v) w h) w j) ⌝ }
+{
+    if t.len() == 0 {
+        shifted::draw_few(positions, values, r, v, w, h, j, 0, w, at, buf);
+    } else {
+        lineparts::draw_row(t, base, positions, values, r, v, w, h, j, at, buf);
+    }
+}
+
+// Draws rows a up to b from the buffer's start, with a table of the colors from `base` on, which may be empty.
 fn draw_rows(
     t: &[u32],
     base: u32,
@@ -38,33 +63,9 @@ fn draw_rows(
     let mut o = 0;
     while j < b {
         let r = fixed::row_line(steps, v, w, h, j);
-        lineparts::draw_row(t, base, positions, values, r, v, w, h, j, o, buf);
+        draw_row(t, base, positions, values, r, v, w, h, j, o, buf);
         o += n;
         j += 1;
-    }
-}
-
-// Draws rows a up to b: by the table, if it has entries.
-fn draw_first(
-    t: &[u32],
-    base: u32,
-    positions: &[u32],
-    values: &[u32],
-    steps: Steps,
-    v: HeldVector,
-    w: usize,
-    h: usize,
-    a: usize,
-    b: usize,
-    buf: &mut [u8],
-)
-    requires { ⌜ Straight (now positions) (now values) v w h a b (length (now buf)) × Table (now positions) (now values) base (now t) × Steady steps v ⌝ }
-    ensures { λ _. ⌜ now (buf .exit) ≡ patched (now (buf .entry)) 0 (strip (lentPixel (now (positions .entry)) (now (values .entry)) (Line.Straight v) w h) w a b) ⌝ }
-{
-    if t.len() == 0 {
-        rows::draw_each(positions, values, Line::Straight(v), w, h, a, b, buf);
-    } else {
-        draw_rows(t, base, positions, values, steps, v, w, h, a, b, buf);
     }
 }
 
@@ -86,7 +87,7 @@ fn draw_shifted(
     requires { ⌜ Shifted (now positions) (now values) v s w h a b (length (now buf)) × Table (now positions) (now values) base (now t) × Steady steps v ⌝ }
     ensures { λ _. ⌜ now (buf .exit) ≡ patched (now (buf .entry)) 0 (strip (lentPixel (now (positions .entry)) (now (values .entry)) (Line.Straight v) w h) w a b) ⌝ }
 {
-    draw_first(
+    draw_rows(
         t,
         base,
         positions,
@@ -145,6 +146,27 @@ fn draw_bare(
 {
     let mut t = [0u32; 1];
     draw_with(&mut t[..0], 0, positions, values, v, s, w, h, a, b, buf);
+}
+
+// The same with a table of n entries, at most 6,144.
+fn draw_tiny(
+    n: usize,
+    base: u32,
+    positions: &[u32],
+    values: &[u32],
+    v: HeldVector,
+    s: Shift,
+    w: usize,
+    h: usize,
+    a: usize,
+    b: usize,
+    buf: &mut [u8],
+)
+    requires { ⌜ Straight (now positions) (now values) v w h a b (length (now buf)) × Even v s × (base ≤ 33000000) × (n ≤ 6144) ⌝ }
+    ensures { λ _. ⌜ now (buf .exit) ≡ patched (now (buf .entry)) 0 (strip (lentPixel (now (positions .entry)) (now (values .entry)) (Line.Straight v) w h) w a b) ⌝ }
+{
+    let mut t = table::tiny();
+    draw_with(&mut t[..n], base, positions, values, v, s, w, h, a, b, buf);
 }
 
 // The same with a table of n entries, at most 16,384.
@@ -212,7 +234,51 @@ fn entries(s: Shift, w: usize, rows: usize, n: usize) -> usize
     n
 }
 
-// Draws rows a up to b along a straight line, from the buffer's start.
+// The table that rows a up to b are drawn with, and how they are copied.
+struct Plan {
+    base: u32,
+    entries: usize,
+    shift: Shift,
+}
+
+fn plan_of(v: HeldVector, w: usize, h: usize, a: usize, b: usize, most: usize) -> Plan
+    requires { ⌜ Box w h × Bounded v × (a < b) × (b ≤ h) ⌝ }
+    ensures { λ r. ⌜ (r .base ≤ 33000000) × (r .entries ≤ most) × Even v (r .shift) ⌝ }
+{
+    let first = corner(v, w, h, a, b, v.left, v.up);
+    let last = corner(v, w, h, a, b, !v.left, !v.up);
+    let s = shifted::shift_of(v);
+    Plan {
+        base: table::base_of(first),
+        entries: entries(s, w, b - a, table::span(first, last, most)),
+        shift: s,
+    }
+}
+
+// Draws rows a up to b of a small box along a straight line, from the buffer's start.
+pub fn draw_small_box(
+    positions: &[u32],
+    values: &[u32],
+    v: HeldVector,
+    w: usize,
+    h: usize,
+    a: usize,
+    b: usize,
+    buf: &mut [u8],
+)
+    requires { ⌜ Straight (now positions) (now values) v w h a b (length (now buf)) ⌝ }
+    ensures { λ _. ⌜ now (buf .exit) ≡ patched (now (buf .entry)) 0 (strip (lentPixel (now (positions .entry)) (now (values .entry)) (Line.Straight v) w h) w a b) ⌝ }
+{
+    let p = plan_of(v, w, h, a, b, 6144);
+    let s = p.shift;
+    if p.entries == 0 {
+        draw_bare(positions, values, v, s, w, h, a, b, buf);
+    } else {
+        draw_tiny(p.entries, p.base, positions, values, v, s, w, h, a, b, buf);
+    }
+}
+
+// The same for a box of any size.
 pub fn draw_straight(
     positions: &[u32],
     values: &[u32],
@@ -226,16 +292,13 @@ pub fn draw_straight(
     requires { ⌜ Straight (now positions) (now values) v w h a b (length (now buf)) ⌝ }
     ensures { λ _. ⌜ now (buf .exit) ≡ patched (now (buf .entry)) 0 (strip (lentPixel (now (positions .entry)) (now (values .entry)) (Line.Straight v) w h) w a b) ⌝ }
 {
-    let first = corner(v, w, h, a, b, v.left, v.up);
-    let last = corner(v, w, h, a, b, !v.left, !v.up);
-    let base = if first <= 33000000 { first } else { 0 };
-    let s = shifted::shift_of(v);
-    let n = entries(s, w, b - a, table::span(first, last));
-    if n == 0 {
+    let p = plan_of(v, w, h, a, b, 185408);
+    let s = p.shift;
+    if p.entries == 0 {
         draw_bare(positions, values, v, s, w, h, a, b, buf);
-    } else if n <= 16384 {
-        draw_small(n, base, positions, values, v, s, w, h, a, b, buf);
+    } else if p.entries <= 16384 {
+        draw_small(p.entries, p.base, positions, values, v, s, w, h, a, b, buf);
     } else {
-        draw_large(n, base, positions, values, v, s, w, h, a, b, buf);
+        draw_large(p.entries, p.base, positions, values, v, s, w, h, a, b, buf);
     }
 }

@@ -43,12 +43,11 @@ pub fn draw_row(
     let mut o = at;
     let mut before: u32 = 0;
     let mut last: u32 = 0;
-    let mut p = color::clear();
     while i < w {
         let s = locate(l, w, h, i, j, root::ahead(before, last));
         before = last;
         last = s;
-        p = color::color_near(positions, values, 33554432 + s, p);
+        let p = color::color_at(positions, values, 33554432 + s);
         put_pixel(buf, o, p);
         o += 4;
         i += 1;

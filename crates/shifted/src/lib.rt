@@ -86,7 +86,7 @@ pub fn pays(s: Shift, w: usize, n: usize) -> bool
 }
 
 // Draws n pixels of row j, from pixel k on, at `at`, with no table.
-fn draw_few(
+pub fn draw_few(
     positions: &[u32],
     values: &[u32],
     r: RowLine,
@@ -104,10 +104,9 @@ fn draw_few(
 {
     let mut i = 0;
     let mut o = at;
-    let mut p = color::clear();
     while i < n {
         let s = fixed::locate(r, v, w, h, k + i, j);
-        p = color::color_near(positions, values, 33554432 + s, p);
+        let p = color::color_at(positions, values, 33554432 + s);
         picture::put(buf, o, p.red, p.green, p.blue, p.alpha);
         o += 4;
         i += 1;

@@ -251,15 +251,26 @@ pub fn fill(t: &mut [u32], positions: &[u32], values: &[u32], base: u32)
 
 // ---- sizes
 
-// How many locations there are from `first` to `last`, at most 185,408.
-pub fn span(first: u32, last: u32) -> usize
-    ensures { λ r. ⌜ r ≤ 185408 ⌝ }
+// Where a table begins whose first location is to be this one: there, unless it is too far away.
+pub fn base_of(first: u32) -> u32
+    ensures { λ r. ⌜ r ≤ 33000000 ⌝ }
+{
+    if first <= 33000000 { first } else { 0 }
+}
+
+// How many locations there are from `first` to `last`, or `most` where that is less.
+pub fn span(first: u32, last: u32, most: usize) -> usize
+    ensures { λ r. ⌜ r ≤ most ⌝ }
 {
     if last < first {
         return 0;
     }
-    let n = last - first;
-    if n < 185408 { (n + 1) as usize } else { 185408 }
+    let n = (last - first) as usize;
+    if n < most { n + 1 } else { most }
+}
+
+pub fn tiny() -> [u32; 6144] {
+    [0u32; 6144]
 }
 
 pub fn small() -> [u32; 16384] {

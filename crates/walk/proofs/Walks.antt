@@ -2,7 +2,7 @@
 -- Assumes nothing.
 use mathlib.Core.Path.{_≡_, refl, sym, ap, _∙_}
 use Prim.Native.Nat.{ℕ, _+_, _-_, _*_, _/_, _%_, _^_, _≤_, _<_}
-use native.Mathlib.Nat.{mul-le-mul-left, mul-le-mul-right, le-of-mul-le-mul-left, lt-of-mul-lt-mul-left, div-eq-of-lt-le, div-add-mod', mod-lt, div-mul-le-self, lt-div-mul-add, div-lt-iff-lt-mul, mul-div-le, lt-mul-div-succ}
+use native.Mathlib.Nat.{mul-le-mul, mul-le-mul-left, mul-le-mul-right, le-of-mul-le-mul-left, lt-of-mul-lt-mul-left, div-eq-of-lt-le, div-add-mod', mod-lt, div-mul-le-self, lt-div-mul-add, div-lt-iff-lt-mul, mul-div-le, lt-mul-div-succ}
 use native.Mathlib.Decide.{decLe}
 use native.Mathlib.Omega.{arith}
 use Rattle.numbers.specs.Fraction.{nearest}
@@ -60,6 +60,12 @@ ahead p q g x m l =
 pub share : (p g s : ℕ) → p ≤ 65025 → 0 < g → s ≤ g → 2 * p * s < 512 * (510 * g)
 share p g s hp some l = omega (arith, mul-le-mul-right s hp)
 
+-- what is at most 130,305 g, over 510 g
+pub short-fits : (g r n : ℕ) → r ≡ scale / (510 * g) → n ≤ 130305 * g → n * r < 256 * scale
+short-fits g r n e h =
+    let m : 510 * g * r ≤ scale = rw e (mul-div-le scale (510 * g)) in
+    omega (arith, m, mul-le-mul-right r h)
+
 module _ (p q g s x : ℕ) (i : Inside p q g s x) where
   -- where a walk begins, f is above the exact number by 262,145 to 1,843,232
   pub begin-is : (f u d : ℕ) → numeratorAt p q g x * scale / (510 * g) + 262145 ≤ f → f ≤ numeratorAt p q g x * scale / (510 * g) + 1843232
@@ -75,6 +81,9 @@ module _ (p q g s x : ℕ) (i : Inside p q g s x) where
       let md : 510 * g * d ≡ 510 * g * (2 * p * s * scale / (510 * g)) = ap (λ (z : ℕ). 510 * g * z) ed in
       record {
         inside = i;
+        one = scale;
+        lack = 0;
+        whole = refl;
         low = omega arith;
         high = omega arith;
         up-low = omega arith;
@@ -83,7 +92,55 @@ module _ (p q g s x : ℕ) (i : Inside p q g s x) where
         down-high = omega arith;
       }
 
+  -- in a short gap all is a multiple of r, one over 510 g, rounded down
+  pub begin-short-is : (r f u d : ℕ) → g ≤ 16384 → r ≡ scale / (510 * g) → f ≡ numeratorAt p q g x * r + (130305 * g + 262144)
+      → u ≡ 2 * q * s * r → d ≡ 2 * p * s * r → Walks p q g s x 262144 (record { f = f; up = u; down = d })
+  begin-short-is r f u d l er ef eu ed =
+      let some : 0 < 510 * g = omega (arith, i .gap .some) in
+      let lack : ℕ = scale % (510 * g) in
+      let e : scale / (510 * g) * (510 * g) + lack ≡ scale = div-add-mod' scale (510 * g) in
+      let m : r * (510 * g) ≡ scale / (510 * g) * (510 * g) = ap (λ (z : ℕ). z * (510 * g)) er in
+      let less : g * lack ≤ g * (510 * g) = mul-le-mul-left g (omega (arith, mod-lt scale some)) in
+      let square : g * g ≤ 16384 * g = mul-le-mul-right g l in
+      let mf : 510 * g * f ≡ 510 * g * (numeratorAt p q g x * r + (130305 * g + 262144)) = ap (λ (z : ℕ). 510 * g * z) ef in
+      let mu : 510 * g * u ≡ 510 * g * (2 * q * s * r) = ap (λ (z : ℕ). 510 * g * z) eu in
+      let md : 510 * g * d ≡ 510 * g * (2 * p * s * r) = ap (λ (z : ℕ). 510 * g * z) ed in
+      record {
+        inside = i;
+        one = r * (510 * g);
+        lack = lack;
+        whole = omega (arith, e, m);
+        low = omega (arith, mf, less);
+        high = omega (arith, mf, square, l);
+        up-low = omega (arith, mu);
+        up-high = omega (arith, mu);
+        down-low = omega (arith, md);
+        down-high = omega (arith, md);
+      }
+
 -- ---- a walk
+module _ (p q g s x left : ℕ) (w : Walk) (h : Walks p q g s x left w) where
+  -- with the scale itself
+  above : numeratorAt p q g x * scale + left * (510 * g) ≤ 510 * g * w .f
+  above =
+      let i = h .inside in
+      let n = top p q g x (i .first) (i .second) (i .gap .within) in
+      let e : numeratorAt p q g x * (h .one + h .lack) ≡ numeratorAt p q g x * scale = ap (λ (z : ℕ). numeratorAt p q g x * z) (h .whole) in
+      let m : numeratorAt p q g x * h .lack ≤ 130305 * g * h .lack = mul-le-mul-right (h .lack) n in
+      omega (arith, e, m, h .low)
+
+  below : 510 * g * w .f + left * (510 * g) ≤ numeratorAt p q g x * scale + scale
+  below =
+      let m : numeratorAt p q g x * h .one ≤ numeratorAt p q g x * scale = mul-le-mul-left (numeratorAt p q g x) (omega (arith, h .whole)) in
+      omega (arith, m, h .high)
+
+  -- the byte fits 8 bits
+  pub walk-small : w .f < 2 ^ 62
+  walk-small =
+      let i = h .inside in
+      let some = i .gap .some in
+      lt-of-mul-lt-mul-left (510 * g) (omega (arith, top p q g x (i .first) (i .second) (i .gap .within), below))
+
 pub walk-byte : (p q g s x left : ℕ) (w : Walk) → Walks p q g s x (left + 1) w → w .f / scale ≡ nearest (mix p q x (g - x))
 walk-byte p q g s x left w h =
     let d : ℕ = 510 * g in
@@ -92,34 +149,53 @@ walk-byte p q g s x left w h =
     let b : ℕ = n / d in
     let lo : b * d ≤ n = div-mul-le-self n d in
     let hi : n < b * d + d = lt-div-mul-add some in
-    let below : d * (b * scale) ≤ d * w .f = omega (arith, h .low) in
-    let above : d * w .f < d * ((b + 1) * scale) = omega (arith, h .high) in
-    div-eq-of-lt-le {k = b} scale (le-of-mul-le-mul-left {k = d} below some) (lt-of-mul-lt-mul-left d above)
+    let from : d * (b * scale) ≤ d * w .f = omega (arith, lo, above p q g s x (left + 1) w h) in
+    let to : d * w .f < d * ((b + 1) * scale) = omega (arith, hi, some, below p q g s x (left + 1) w h) in
+    div-eq-of-lt-le {k = b} scale (le-of-mul-le-mul-left {k = d} from some) (lt-of-mul-lt-mul-left d to)
     ∙ sym (mix-is p q g x (h .inside .first) (h .inside .second) (h .inside .gap .within))
 
--- the byte fits 8 bits
-pub walk-small : (p q g s x left : ℕ) (w : Walk) → Walks p q g s x left w → w .f < 2 ^ 62
-walk-small p q g s x left w h =
-    let i = h .inside in
-    let some = i .gap .some in
-    lt-of-mul-lt-mul-left (510 * g) (omega (arith, top p q g x (i .first) (i .second) (i .gap .within), h .high))
+-- n steps of a number, a to b, that add u and take v each, beside those of f, where up and down are u and v over d, rounded down
+module _ (a b u v n d f up down left rest : ℕ) (e : b + n * v ≡ a + n * u) where
+  raised : a + rest + (left + n) * d ≤ d * f → n * u ≤ n * (d * up + d) → n * (d * down) ≤ n * v
+      → b + rest + left * d + d * (n * down) ≤ d * (f + n * up)
+  raised h k l = omega arith
+
+  lowered : d * f + (left + n) * d ≤ a + rest → n * (d * up) ≤ n * u → n * v ≤ n * (d * down + d)
+      → d * (f + n * up) + left * d ≤ b + rest + d * (n * down)
+  lowered h k l = omega arith
+
+-- in multiples of one
+spread : (a b p q n s one : ℕ) → b + 2 * p * (n * s) ≡ a + 2 * q * (n * s) → b * one + n * (2 * p * s * one) ≡ a * one + n * (2 * q * s * one)
+spread a b p q n s one e =
+    let m : (b + 2 * p * (n * s)) * one ≡ (a + 2 * q * (n * s)) * one = ap (λ (z : ℕ). z * one) e in
+    omega arith
 
 -- n steps at once
 module _ (n p q g s x left : ℕ) (w : Walk) (h : Walks p q g s x (left + n) w) (l : x + n * s ≤ g) where
-  step : numeratorAt p q g (x + n * s) + 2 * p * (n * s) ≡ numeratorAt p q g x + 2 * q * (n * s)
-  step = ahead p q g x (n * s) l
+  step : numeratorAt p q g (x + n * s) * h .one + n * (2 * p * s * h .one) ≡ numeratorAt p q g x * h .one + n * (2 * q * s * h .one)
+  step = spread (numeratorAt p q g x) (numeratorAt p q g (x + n * s)) p q n s (h .one) (ahead p q g x (n * s) l)
 
-  up-low : n * (510 * g * w .up) ≤ n * (2 * q * s * scale)
+  up-low : n * (510 * g * w .up) ≤ n * (2 * q * s * h .one)
   up-low = mul-le-mul-left n (h .up-low)
 
-  up-high : n * (2 * q * s * scale) ≤ n * (510 * g * w .up + 510 * g)
+  up-high : n * (2 * q * s * h .one) ≤ n * (510 * g * w .up + 510 * g)
   up-high = mul-le-mul-left n (h .up-high)
 
-  down-low : n * (510 * g * w .down) ≤ n * (2 * p * s * scale)
+  down-low : n * (510 * g * w .down) ≤ n * (2 * p * s * h .one)
   down-low = mul-le-mul-left n (h .down-low)
 
-  down-high : n * (2 * p * s * scale) ≤ n * (510 * g * w .down + 510 * g)
+  down-high : n * (2 * p * s * h .one) ≤ n * (510 * g * w .down + 510 * g)
   down-high = mul-le-mul-left n (h .down-high)
+
+  rise : numeratorAt p q g (x + n * s) * h .one + 130305 * g * h .lack + left * (510 * g) + 510 * g * (n * w .down) ≤ 510 * g * (w .f + n * w .up)
+  rise = raised _ _ _ _ n (510 * g) (w .f) (w .up) (w .down) left _ step (h .low) up-high down-low
+
+  fall : 510 * g * (w .f + n * w .up) + left * (510 * g) ≤ numeratorAt p q g (x + n * s) * h .one + scale + 510 * g * (n * w .down)
+  fall = lowered _ _ _ _ n (510 * g) (w .f) (w .up) (w .down) left _ step (h .high) up-low down-high
+
+  -- the steps add and take no more than the whole gap
+  most : (c : ℕ) → c ≤ 65025 → c * (n * s) * h .one ≤ 65025 * g * scale
+  most c m = mul-le-mul (mul-le-mul m (omega arith)) (omega (arith, h .whole))
 
   pub walk-fits : Fits n w
   walk-fits =
@@ -127,9 +203,9 @@ module _ (n p q g s x left : ℕ) (w : Walk) (h : Walks p q g s x (left + n) w) 
       let some : 0 < 510 * g = omega (arith, i .gap .some) in
       record {
         here = walk-small p q g s x (left + n) w h;
-        up = lt-of-mul-lt-mul-left (510 * g) (omega (arith, up-low, mul-le-mul-right (n * s) (i .second)));
-        down = lt-of-mul-lt-mul-left (510 * g) (omega (arith, down-low, mul-le-mul-right (n * s) (i .first)));
-        room = le-of-mul-le-mul-left {k = 510 * g} (omega (arith, step, h .low, up-high, down-low)) some;
+        up = lt-of-mul-lt-mul-left (510 * g) (omega (arith, some, up-low, most q (i .second)));
+        down = lt-of-mul-lt-mul-left (510 * g) (omega (arith, some, down-low, most p (i .first)));
+        room = le-of-mul-le-mul-left {k = 510 * g} (omega (arith, rise)) some;
       }
 
   pub walk-further : (v : Walk) → Further n w v → Walks p q g s (x + n * s) left v
@@ -139,8 +215,11 @@ module _ (n p q g s x left : ℕ) (w : Walk) (h : Walks p q g s x (left + n) w) 
       let j = i .gap in
       record {
         inside = record { first = i .first; second = i .second; gap = record { some = j .some; small = j .small; stride = j .stride; within = l } };
-        low = omega (arith, step, h .low, up-high, down-low);
-        high = omega (arith, step, h .high, up-low, down-high);
+        one = h .one;
+        lack = h .lack;
+        whole = h .whole;
+        low = omega (arith, m, rise);
+        high = omega (arith, m, fall);
         up-low = rw (e .up) (h .up-low);
         up-high = rw (e .up) (h .up-high);
         down-low = rw (e .down) (h .down-low);

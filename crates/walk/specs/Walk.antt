@@ -26,15 +26,19 @@ abbrev pub numeratorAt : ℕ → ℕ → ℕ → ℕ → ℕ
 numeratorAt p q g x = 2 * (p * (g - x) + q * x) + 255 * g
 
 -- a walk in steps of s units that is at x and stays right for `left` steps more: f is at least `left` above the exact number, and as much below
--- that of a numerator one more; up and down are what a step adds and takes, rounded down
+-- that of a numerator one more; up and down are what a step adds and takes, rounded down. The walk has `one` for the scale, `lack` too little; f
+-- makes up for it, as no numerator is above 130,305 g
 pub record Walks (p q g s x left : ℕ) (w : Walk) : Type 0 where
   pub inside : Inside p q g s x
-  pub low : numeratorAt p q g x * scale + left * (510 * g) ≤ 510 * g * w .f
-  pub high : 510 * g * w .f + left * (510 * g) ≤ numeratorAt p q g x * scale + scale
-  pub up-low : 510 * g * w .up ≤ 2 * q * s * scale
-  pub up-high : 2 * q * s * scale ≤ 510 * g * w .up + 510 * g
-  pub down-low : 510 * g * w .down ≤ 2 * p * s * scale
-  pub down-high : 2 * p * s * scale ≤ 510 * g * w .down + 510 * g
+  pub one : ℕ
+  pub lack : ℕ
+  pub whole : one + lack ≡ scale
+  pub low : numeratorAt p q g x * one + 130305 * g * lack + left * (510 * g) ≤ 510 * g * w .f
+  pub high : 510 * g * w .f + left * (510 * g) ≤ numeratorAt p q g x * one + scale
+  pub up-low : 510 * g * w .up ≤ 2 * q * s * one
+  pub up-high : 2 * q * s * one ≤ 510 * g * w .up + 510 * g
+  pub down-low : 510 * g * w .down ≤ 2 * p * s * one
+  pub down-high : 2 * p * s * one ≤ 510 * g * w .down + 510 * g
 
 -- v is n steps further than w
 pub record Further (n : ℕ) (w v : Walk) : Type 0 where

@@ -50,6 +50,18 @@ pub fn begin(p: u32, q: u32, g: u32, s: u32, x: u32) -> Walk
     }
 }
 
+// The same where g is at most 16,384, by multiplications: r is one over 510 g.
+fn begin_short(p: u32, q: u32, g: u32, s: u32, x: u32, r: u64) -> Walk
+    requires { ⌜ Inside p q g s x × (g ≤ 16384) × (r ≡ scale / (510 * g)) ⌝ }
+    ensures { λ w. ⌜ Walks p q g s x 262144 w ⌝ }
+{
+    Walk {
+        f: numerator(p, q, g, x) * r + (130305 * (g as u64) + 262144),
+        up: 2 * (q as u64) * (s as u64) * r,
+        down: 2 * (p as u64) * (s as u64) * r,
+    }
+}
+
 // The walk a step further.
 pub fn next(w: Walk) -> Walk
     ensures { λ v. ⌜ (Fits 1 w → Further 1 w v) ⌝ }
@@ -97,6 +109,14 @@ fn begin_channel(values: &[u32], k: usize, m: usize, g: u32, s: u32, x: u32) -> 
     begin(values[k], values[m], g, s, x)
 }
 
+// The same where g is at most 16,384: r is one over 510 g.
+fn begin_short_channel(values: &[u32], k: usize, m: usize, g: u32, s: u32, x: u32, r: u64) -> Walk
+    requires { ⌜ (k < length (now values)) × (m < length (now values)) × Small (now values) × Gap g s x × (g ≤ 16384) × (r ≡ scale / (510 * g)) ⌝ }
+    ensures { λ w. ⌜ Walks (getD (now (values .entry)) k 0) (getD (now (values .entry)) m 0) g s x 262144 w ⌝ }
+{
+    begin_short(values[k], values[m], g, s, x, r)
+}
+
 // The walks in steps of s units at x units from stop i, of g up to the next.
 pub fn begin_all(values: &[u32], i: usize, g: u32, s: u32, x: u32) -> Channels
     requires { ⌜ (4 * i + 7 < length (now values)) × Small (now values) × Gap g s x ⌝ }
@@ -104,6 +124,15 @@ pub fn begin_all(values: &[u32], i: usize, g: u32, s: u32, x: u32) -> Channels
 {
     let k = 4 * i;
     let m = 4 * (i + 1);
+    if g <= 16384 {
+        let r = 18014398509481984 / (510 * (g as u64));
+        return Channels {
+            red: begin_short_channel(values, k, m, g, s, x, r),
+            green: begin_short_channel(values, k + 1, m + 1, g, s, x, r),
+            blue: begin_short_channel(values, k + 2, m + 2, g, s, x, r),
+            alpha: begin_short_channel(values, k + 3, m + 3, g, s, x, r),
+        };
+    }
     Channels {
         red: begin_channel(values, k, m, g, s, x),
         green: begin_channel(values, k + 1, m + 1, g, s, x),

@@ -15,13 +15,14 @@ next-row-requires c κs =
     let p = s .pre .0 in (
       record { near = p .near; some = p .box .some-width; width = p .box .width; height = omega (arith, p .box .height, s .pre .1); halves = s .pre .2; room-before = s .pre .3; room-last = s .pre .4 },
       p .range,
+      s .pre .6,
       s .pre .7,
     )
 
 draw-known-requires : tie.Need-draw-known-requires
 draw-known-requires c κs =
-    let s = c .before .before .before .before .before .before .before .before .before .before .before .before .before .before .before .before in
-    (c .before .before .before .before .before .before .next-row .ensures (c .before .before .if2 .taken) (s .pre .6 (c .before .before .before .if1 .taken)) .1, omega (arith, s .pre .3), s .pre .5)
+    let s = c .before .before .before .before .before .before .before .before .before .before .before .before .before .before .before in
+    (c .before .before .before .before .before .next-row .ensures (c .before .before .if1 .taken) .1, omega (arith, s .pre .3), s .pre .5)
 
 same-length : tie.Need-same-length
 same-length c = search needs
@@ -31,9 +32,9 @@ same-length-2 c = search needs
 
 returns : tie.Need-returns
 returns c =
-    let s = c .before .before .before .before .before .before .before .before .before .before .before .before .before .before .before .before .before .before .before in
+    let s = c .before .before .before .before .before .before .before .before .before .before .before .before .before .before .before .before .before .before in
     let a = s .args in
-    let k = c .before .before .before .before .before .before .before .before .before .next-row .ensures (c .before .before .before .before .before .if2 .taken) (s .pre .6 (c .before .before .before .before .before .before .if1 .taken)) .0 in
+    let k = c .before .before .before .before .before .before .before .before .next-row .ensures (c .before .before .before .before .before .if1 .taken) .0 in
     (c .before .before .draw-known .ensures (a .positions .now) (a .values .now) (circleRule (centerIn (a .c))) (a .j) (s .pre .0 .lent) (s .pre .0 .table) (k .at), k)
 
 draw-row-requires : tie.Need-draw-row-requires

@@ -15,7 +15,7 @@ use Rattle.picture.proofs.Patches.{patch-none}
 use Rattle.rows.specs.Pixel.{lentPixel}
 use Rattle.rows.proofs.Pixels.{four, rows-turn}
 use borrow.Author.Needs.{needs}
-use Rattle.circlerows.specs.Circular.{BeforeInTurn}
+use Rattle.circlerows.specs.Prepared.{BeforeInTurn}
 use Rattle.circlerows.proofs.Mirrors.{mirror-turn}
 use Rattle.circlerows.proofs.draw_rows.Statement.{statement}
 use Rattle.circlerows.proofs.draw_rows.Tie as tie

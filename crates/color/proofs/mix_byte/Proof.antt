@@ -34,7 +34,7 @@ mul-quotient-2 : tie.Need-mul-quotient-2
 mul-quotient-2 c = search needs
 
 quotient-requires : tie.Need-quotient-requires
-quotient-requires c κs = search needs
+quotient-requires c κs = (omega (arith, c .pre .2), omega arith, omega (arith, small c), omega (arith, c .pre .3))
 
 cast-result : tie.Need-cast-result
 cast-result c =

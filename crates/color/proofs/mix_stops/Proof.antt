@@ -12,6 +12,9 @@ add-m c = search needs
 mul-m : tie.Need-mul-m
 mul-m c = search needs
 
+inverse-of-requires : tie.Need-inverse-of-requires
+inverse-of-requires c κs = search needs
+
 mix-channel-requires : tie.Need-mix-channel-requires
 mix-channel-requires c κs = search needs
 
@@ -57,6 +60,7 @@ mix-stops-spec =
     mul-k
     add-m
     mul-m
+    inverse-of-requires
     mix-channel-requires
     add-mix-channel
     add-mix-channel-2

@@ -14,7 +14,7 @@ use Rattle.color.proofs.values_of.Statement.{statement}
 use Rattle.color.proofs.values_of.Tie as tie
 
 abbrev Inv-loop : tie.InvT-loop
-Inv-loop p n values₀ i₀ values i = (i ≤ n) × (take (4 * i) values ≡ valuesOf (take i (p .stops))) × Small values
+Inv-loop p n values₀ i₀ values i = (i ≤ n) × (length values ≡ 64) × (take (4 * i) values ≡ valuesOf (take i (p .stops))) × Small values
 
 abbrev μ-loop : tie.MeasureT-loop
 μ-loop p n values₀ i₀ values i = n - i
@@ -27,7 +27,7 @@ cast-n c = search needs
 
 loop-holds : tie.Need-loop-holds Inv-loop μ-loop
 unfolding valuesOf
-loop-holds c = (search needs, refl, small-zeros 64)
+loop-holds c = (search needs, refl, refl, small-zeros 64)
 
 mul-s : tie.Need-mul-s Inv-loop μ-loop
 mul-s c = search needs
@@ -35,8 +35,11 @@ mul-s c = search needs
 element-copy-out-s : tie.Need-element-copy-out-s Inv-loop μ-loop
 element-copy-out-s c = search needs
 
+slice-aggregate-store : tie.Need-slice-aggregate-store Inv-loop μ-loop
+slice-aggregate-store c = search needs
+
 store-requires : tie.Need-store-requires Inv-loop μ-loop
-store-requires c κs = (search needs, c .before .before .loop .inv .2)
+store-requires c κs = (omega arith, c .before .before .before .loop .inv .3)
 
 add-i : tie.Need-add-i Inv-loop μ-loop
 add-i c = search needs
@@ -46,10 +49,11 @@ loop-less c = search needs
 
 loop-again : tie.Need-loop-again Inv-loop μ-loop
 loop-again c =
-    let s = c .before .before .before .before in
-    let l = c .before .before .before .loop in
+    let s = c .before .before .before .before .before .before in
+    let l = c .before .before .before .before .before .loop in
+    let r = c .before .store .ensures in
     let n = sixteen s in
-    (search needs, values-more (s .args .t1 .stops) (l .i) (l .values) _ (omega arith) (l .inv .1) (c .store .ensures .0), c .store .ensures .1)
+    (search needs, search needs, values-more (s .args .t1 .stops) (l .i) (l .values) _ (omega arith) (l .inv .2) (r .0), r .1)
 
 returns : tie.Need-returns Inv-loop μ-loop
 returns c =
@@ -58,8 +62,8 @@ returns c =
     let n = sixteen s in
     let e : s .args .t1 .count ≡ l .i = omega arith in
     record {
-      values = rw e (l .inv .1);
-      small = l .inv .2;
+      values = rw e (l .inv .2);
+      small = l .inv .3;
       many = length-take-le (s .args .t1 .count) (s .args .t1 .stops) (omega arith);
       bytes = placed-bytes (s .args .t1) _ (s .good .0);
     }
@@ -74,6 +78,7 @@ values-of-spec =
     loop-holds
     mul-s
     element-copy-out-s
+    slice-aggregate-store
     store-requires
     add-i
     loop-less

@@ -16,23 +16,20 @@ use Rattle.linerows.proofs.draw_shifted.Tie as tie
 ends : (c : tie.Start) → c .args .a + c .args .s .rows < c .args .b
 ends c = omega (arith, c .pre .0 .pays .fewer)
 
-add-draw-first : tie.Need-add-draw-first
-add-draw-first c = search needs
+add-draw-rows : tie.Need-add-draw-rows
+add-draw-rows c = search needs
 
-draw-first-requires : tie.Need-draw-first-requires
-draw-first-requires c κs =
+draw-rows-requires : tie.Need-draw-rows-requires
+draw-rows-requires c κs =
     let s = c .before .before .before .before .before .before in
     let a = s .args in
     let p = s .pre .0 in
     let m : a .a + a .s .rows - a .a ≤ a .b - a .a = omega (arith, ends s) in (
-      record {
-        lent = p .drawable .lent;
-        bounded = p .drawable .placed .sound;
-        box = p .drawable .placed .box;
-        strip = record { some = omega (arith, p .pays .some); within = omega (arith, ends s, p .strip .within); room = omega (arith, p .strip .room, mul-le-mul-left (4 * a .w) m) };
-      },
+      p .drawable .lent,
       s .pre .1,
+      p .drawable .placed .box,
       s .pre .2,
+      record { some = omega (arith, p .pays .some); within = omega (arith, ends s, p .strip .within); room = omega (arith, p .strip .room, mul-le-mul-left (4 * a .w) m) },
     )
 
 draw-on-requires : tie.Need-draw-on-requires
@@ -43,7 +40,7 @@ draw-on-requires c κs =
     let px : (ℕ → ℕ → List ℕ) = lentPixel (a .positions .now) (a .values .now) (L.Straight (a .v)) (a .w) (a .h) in (
       record { drawable = p .drawable; strip = record { some = p .strip .some; within = p .strip .within; room = omega (arith, p .strip .room) }; even = p .even; pays = p .pays },
       first-stand px (four (a .positions .now) (a .values .now) (L.Straight (a .v)) (a .w) (a .h)) (a .w) (a .a) (a .a + a .s .rows) (a .b) (now (a .buf)) _
-          (omega arith) (omega (arith, ends s)) (p .strip .room) (c .before .before .before .draw-first .ensures),
+          (omega arith) (omega (arith, ends s)) (p .strip .room) (c .before .before .before .draw-rows .ensures),
       s .pre .1,
       s .pre .2,
     )
@@ -57,8 +54,8 @@ returns c =
     let a = s .args in
     let px : (ℕ → ℕ → List ℕ) = lentPixel (a .positions .now) (a .values .now) (L.Straight (a .v)) (a .w) (a .h) in
     all-drawn px (four (a .positions .now) (a .values .now) (L.Straight (a .v)) (a .w) (a .h)) (a .w) (a .a) (a .a + a .s .rows) (a .b) (now (a .buf)) _
-    (omega arith) (omega (arith, ends s)) (s .pre .0 .strip .room) (c .before .before .before .before .before .before .draw-first .ensures) _ (c .before .before .draw-on .ensures)
+    (omega arith) (omega (arith, ends s)) (s .pre .0 .strip .room) (c .before .before .before .before .before .before .draw-rows .ensures) _ (c .before .before .draw-on .ensures)
 
 pub draw-shifted-spec : {M : Type 1} → statement M
 draw-shifted-spec =
-    tie.close (tie.spec add-draw-first draw-first-requires draw-on-requires same-length returns)
+    tie.close (tie.spec add-draw-rows draw-rows-requires draw-on-requires same-length returns)

@@ -17,17 +17,14 @@ use Rattle.rows.proofs.draw_row.Statement.{statement}
 use Rattle.rows.proofs.draw_row.Tie as tie
 
 abbrev Inv-loop : tie.InvT-loop
-Inv-loop positions values l w h j at buf₀ i₀ o₀ before₀ last₀ p₀ buf i o before last p =
+Inv-loop positions values l w h j at buf₀ i₀ o₀ before₀ last₀ buf i o before last =
     (buf ≡ patched buf₀ at (row (lentPixel positions values l w h) i j)) × (o ≡ at + 4 * i) × (i ≤ w) × (length buf ≡ length buf₀)
 
 abbrev μ-loop : tie.MeasureT-loop
-μ-loop positions values l w h j at buf₀ i₀ o₀ before₀ last₀ p₀ buf i o before last p = w - i
-
-clear-requires : tie.Need-clear-requires Inv-loop μ-loop
-clear-requires c κs = search needs
+μ-loop positions values l w h j at buf₀ i₀ o₀ before₀ last₀ buf i o before last = w - i
 
 loop-holds : tie.Need-loop-holds Inv-loop μ-loop
-loop-holds c = (rw row-none (patch-none (now (c .before .before .before .before .args .buf)) (c .before .before .before .before .args .at)), omega arith, omega arith, refl)
+loop-holds c = (rw row-none (patch-none (now (c .before .before .before .args .buf)) (c .before .before .before .args .at)), omega arith, omega arith, refl)
 
 ahead-requires : tie.Need-ahead-requires Inv-loop μ-loop
 ahead-requires c κs = search needs
@@ -35,11 +32,11 @@ ahead-requires c κs = search needs
 locate-requires : tie.Need-locate-requires Inv-loop μ-loop
 locate-requires c κs = search needs
 
-add-color-near : tie.Need-add-color-near Inv-loop μ-loop
-add-color-near c = omega (arith, c .locate .ensures .1)
+add-color-at : tie.Need-add-color-at Inv-loop μ-loop
+add-color-at c = omega (arith, c .locate .ensures .1)
 
-color-near-requires : tie.Need-color-near-requires Inv-loop μ-loop
-color-near-requires c κs = search needs
+color-at-requires : tie.Need-color-at-requires Inv-loop μ-loop
+color-at-requires c κs = search needs
 
 put-pixel-requires : tie.Need-put-pixel-requires Inv-loop μ-loop
 put-pixel-requires c κs = omega arith
@@ -58,12 +55,12 @@ loop-less c = omega arith
 
 loop-again : tie.Need-loop-again Inv-loop μ-loop
 loop-again c =
-    let a = c .before .before .before .before .before .before .before .before .before .before .before .before .before .args in
+    let a = c .before .before .before .before .before .before .before .before .before .before .before .before .args in
     let l = c .before .before .before .before .before .before .before .before .loop in
     let px : (ℕ → ℕ → List ℕ) = lentPixel (a .positions .now) (a .values .now) (a .l) (a .w) (a .h) in
     let e : c .before .before .put-pixel .last .0 ≡ patched (l .buf) (l .o) (px (l .i) (a .j)) =
     c .before .before .put-pixel .ensures
-    ∙ ap (patched (l .buf) (l .o)) (pixel-is (a .positions .now) (a .values .now) (a .l) (a .w) (a .h) (l .i) (a .j) _ _ (c .before .before .before .before .before .locate .ensures .0) (c .before .before .before .before .color-near .ensures)) in (
+    ∙ ap (patched (l .buf) (l .o)) (pixel-is (a .positions .now) (a .values .now) (a .l) (a .w) (a .h) (l .i) (a .j) _ _ (c .before .before .before .before .before .locate .ensures .0) (c .before .before .before .before .color-at .ensures)) in (
       rw row-more (patch-step (now (a .buf)) (row px (l .i) (a .j)) (px (l .i) (a .j)) (l .buf) _ (a .at) (l .o)
           (rw (row-length px (four (a .positions .now) (a .values .now) (a .l) (a .w) (a .h))) (omega arith)) (omega arith) (l .inv .0) e),
       omega arith,
@@ -76,7 +73,7 @@ same-length c = c .before .loop .inv .3
 
 returns : tie.Need-returns Inv-loop μ-loop
 returns c =
-    let a = c .before .before .before .before .before .before .args in
+    let a = c .before .before .before .before .before .args in
     c .before .loop .inv .0 ∙ ap (λ (n : ℕ). patched (now (a .buf)) (a .at) (row (lentPixel (a .positions .now) (a .values .now) (a .l) (a .w) (a .h)) n (a .j))) (omega arith)
 
 pub draw-row-spec : {M : Type 1} → statement M
@@ -85,12 +82,11 @@ draw-row-spec =
     (tie.spec
     Inv-loop
     μ-loop
-    clear-requires
     loop-holds
     ahead-requires
     locate-requires
-    add-color-near
-    color-near-requires
+    add-color-at
+    color-at-requires
     put-pixel-requires
     add-o
     add-i

@@ -1,4 +1,5 @@
 -- `walk::begin_all` meets its contract. Assumes nothing.
+use mathlib.Core.Path.{refl}
 use Prim.Native.Nat.{_+_}
 use native.Mathlib.Omega.{arith}
 use denote.Ref.{now}
@@ -19,6 +20,55 @@ add-m c = search needs
 mul-m : tie.Need-mul-m
 mul-m c = search needs
 
+mul-r : tie.Need-mul-r
+mul-r c = search needs
+
+div-r : tie.Need-div-r
+div-r c = search needs
+
+begin-short-channel-requires : tie.Need-begin-short-channel-requires
+begin-short-channel-requires c κs = search needs
+
+add-begin-short-channel : tie.Need-add-begin-short-channel
+add-begin-short-channel c = search needs
+
+add-begin-short-channel-2 : tie.Need-add-begin-short-channel-2
+add-begin-short-channel-2 c = search needs
+
+begin-short-channel-requires-2 : tie.Need-begin-short-channel-requires-2
+begin-short-channel-requires-2 c κs =
+    let p = c .before .before .before .pre in
+    (omega arith, omega arith, p .1, p .2, omega arith, refl)
+
+add-begin-short-channel-3 : tie.Need-add-begin-short-channel-3
+add-begin-short-channel-3 c = search needs
+
+add-begin-short-channel-4 : tie.Need-add-begin-short-channel-4
+add-begin-short-channel-4 c = search needs
+
+begin-short-channel-requires-3 : tie.Need-begin-short-channel-requires-3
+begin-short-channel-requires-3 c κs =
+    let p = c .before .before .before .before .pre in
+    (omega arith, omega arith, p .1, p .2, omega arith, refl)
+
+add-begin-short-channel-5 : tie.Need-add-begin-short-channel-5
+add-begin-short-channel-5 c = omega arith
+
+add-begin-short-channel-6 : tie.Need-add-begin-short-channel-6
+add-begin-short-channel-6 c = omega arith
+
+begin-short-channel-requires-4 : tie.Need-begin-short-channel-requires-4
+begin-short-channel-requires-4 c κs =
+    let p = c .before .before .before .before .before .pre in
+    (omega arith, omega arith, p .1, p .2, omega arith, refl)
+
+returns : tie.Need-returns
+returns c =
+    let a = c .before .before .before .before .before .before .args in
+    every (λ d. Walks (valuesAt (now (a .values)) (a .i) d) (valuesAt (now (a .values)) (a .i + 1) d) (a .g) (a .s) (a .x) 262144 (walkOf _ d))
+    (c .before .before .before .begin-short-channel .ensures) (c .before .before .begin-short-channel2 .ensures)
+    (c .before .begin-short-channel3 .ensures) (c .begin-short-channel4 .ensures)
+
 begin-channel-requires : tie.Need-begin-channel-requires
 begin-channel-requires c κs = search needs
 
@@ -29,7 +79,7 @@ add-begin-channel-2 : tie.Need-add-begin-channel-2
 add-begin-channel-2 c = search needs
 
 begin-channel-requires-2 : tie.Need-begin-channel-requires-2
-begin-channel-requires-2 c κs = let p = c .before .before .pre in (omega arith, omega arith, p .1, p .2)
+begin-channel-requires-2 c κs = let p = c .before .before .before .pre in (omega arith, omega arith, p .1, p .2)
 
 add-begin-channel-3 : tie.Need-add-begin-channel-3
 add-begin-channel-3 c = search needs
@@ -38,7 +88,7 @@ add-begin-channel-4 : tie.Need-add-begin-channel-4
 add-begin-channel-4 c = search needs
 
 begin-channel-requires-3 : tie.Need-begin-channel-requires-3
-begin-channel-requires-3 c κs = let p = c .before .before .before .pre in (omega arith, omega arith, p .1, p .2)
+begin-channel-requires-3 c κs = let p = c .before .before .before .before .pre in (omega arith, omega arith, p .1, p .2)
 
 add-begin-channel-5 : tie.Need-add-begin-channel-5
 add-begin-channel-5 c = search needs
@@ -47,11 +97,11 @@ add-begin-channel-6 : tie.Need-add-begin-channel-6
 add-begin-channel-6 c = search needs
 
 begin-channel-requires-4 : tie.Need-begin-channel-requires-4
-begin-channel-requires-4 c κs = let p = c .before .before .before .before .pre in (omega arith, omega arith, p .1, p .2)
+begin-channel-requires-4 c κs = let p = c .before .before .before .before .before .pre in (omega arith, omega arith, p .1, p .2)
 
-returns : tie.Need-returns
-returns c =
-    let a = c .before .before .before .before .before .args in
+returns-2 : tie.Need-returns-2
+returns-2 c =
+    let a = c .before .before .before .before .before .before .args in
     every (λ d. Walks (valuesAt (now (a .values)) (a .i) d) (valuesAt (now (a .values)) (a .i + 1) d) (a .g) (a .s) (a .x) 262144 (walkOf _ d))
     (c .before .before .before .begin-channel .ensures) (c .before .before .begin-channel2 .ensures) (c .before .begin-channel3 .ensures) (c .begin-channel4 .ensures)
 
@@ -62,6 +112,19 @@ begin-all-spec =
     mul-k
     add-m
     mul-m
+    mul-r
+    div-r
+    begin-short-channel-requires
+    add-begin-short-channel
+    add-begin-short-channel-2
+    begin-short-channel-requires-2
+    add-begin-short-channel-3
+    add-begin-short-channel-4
+    begin-short-channel-requires-3
+    add-begin-short-channel-5
+    add-begin-short-channel-6
+    begin-short-channel-requires-4
+    returns
     begin-channel-requires
     add-begin-channel
     add-begin-channel-2
@@ -72,4 +135,4 @@ begin-all-spec =
     add-begin-channel-5
     add-begin-channel-6
     begin-channel-requires-4
-    returns)
+    returns-2)
