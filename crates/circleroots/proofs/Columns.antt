@@ -4,11 +4,9 @@ use mathlib.Core.Path.{_≡_, sym, ap, _∙_}
 use mathlib.Core.List.{List}
 use Prim.Native.Nat.{ℕ, _+_, _*_, _≤_, _<_}
 use native.Mathlib.Nat.{mul-le-mul}
-use native.Mathlib.Decide.{decLe}
 use native.Mathlib.Omega.{arith}
 use lib.IntN.{natAbs}
 use lib.ListN.{length, getD, set}
-use lib.Seq.{getD-set-same, getD-set-other}
 use Rattle.numbers.specs.Held.{offset, unheld}
 use Rattle.numbers.specs.Fraction.{distance}
 use Rattle.numbers.proofs.Integers.{diff-of, diff-abs}
@@ -19,6 +17,7 @@ use Rattle.line.specs.Held.{centerIn}
 use Rattle.line.specs.declared.HeldCenter.{HeldCenter}
 use Rattle.line.proofs.Circles.{from-held, from-below}
 use Rattle.circleroots.specs.Squares.{squareOf, Measured}
+use Rattle.circleroots.proofs.Parts.{each-set}
 
 -- how far the held coordinate is from m, in counts
 pub from-is : (c m : ℕ) → from (unheld c) m ≡ distance (m + offset) c
@@ -49,11 +48,7 @@ square-mirrored c j m e =
 -- one more of a list of f's numbers
 pub filled-set : (f : ℕ → ℕ) (i : ℕ) (l : List ℕ) (s : ℕ) → s ≡ f i → i < length l → ((k : ℕ) → k < i → getD l k 0 ≡ f k) → (k : ℕ) → k < i + 1
     → getD (set l i s) k 0 ≡ f k
-filled-set f i l s e h q k p = either (decLe i k)
-  where
-    either : Dec (i ≤ k) → getD (set l i s) k 0 ≡ f k
-    either (yes g) = let m : k ≡ i = omega arith in rw m (getD-set-same l i s 0 h ∙ e)
-    either (no g) = getD-set-other l i k s 0 (λ (m : k ≡ i). omega arith) ∙ q k (omega arith)
+filled-set f i l s e h q k p = each-set (λ (n b : ℕ). b ≡ f n) 0 i l s h (λ n u. q n) e k (omega arith) p
 
 -- ---- pixel (i, j)
 module _ (c : HeldCenter) (w j : ℕ) (l : List ℕ) (row : ℕ) (m : Measured c w j l row) (i : ℕ) (p : i < w) where

@@ -2,4 +2,3 @@ pub mod Columns
 pub mod Far
 pub mod Parts
 pub mod Rows
-pub mod Guesses

@@ -74,7 +74,7 @@ pub record Nearest (c w m : ℕ) : Type 0 where
   pub before : 0 < m → 64 * m + 33554432 ≤ c
   pub after : m + 1 < w → c < 64 * (m + 1) + 33554432
 
--- what the locations of row j are guessed from, and the lengths of two lists of those of other rows
+-- what the locations of row j are found from in other rows' ones, and the lengths of two lists of those
 pub record Guessable (c : HeldCenter) (w j : ℕ) (low : List ℕ) (p q : ℕ) : Type 0 where
   pub near : Near c
   pub some : 0 < w

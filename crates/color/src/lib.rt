@@ -47,12 +47,12 @@ fn stop_byte(p: u32) -> u8
     ((2 * p + 255) / 510) as u8
 }
 
-// 2^54 over what a mix at x units from a stop and y from the next is divided by, rounded down.
-fn inverse_of(x: u32, y: u32) -> u64
-    requires { ⌜ 0 < y ⌝ }
-    ensures { λ r. ⌜ Inverse (510 * (x + y)) r ⌝ }
+// 2^54 over what a mix between stops that are g units apart is divided by, rounded down.
+pub fn inverse_of(g: u64) -> u64
+    requires { ⌜ (0 < g) × (g < 2 ^ 34) ⌝ }
+    ensures { λ r. ⌜ (r ≡ 18014398509481984 / (510 * g)) × Inverse (510 * g) r ⌝ }
 {
-    18014398509481984 / (510 * ((x as u64) + (y as u64)))
+    18014398509481984 / (510 * g)
 }
 
 // n / d: by d's inverse where that is near enough, else by division.
@@ -117,7 +117,7 @@ fn mix_stops(values: &[u32], i: usize, x: u32, y: u32) -> Rgba
 {
     let k = 4 * i;
     let m = 4 * (i + 1);
-    let inverse = inverse_of(x, y);
+    let inverse = inverse_of((x as u64) + (y as u64));
     Rgba {
         red: mix_channel(values, k, m, x, y, inverse),
         green: mix_channel(values, k + 1, m + 1, x, y, inverse),

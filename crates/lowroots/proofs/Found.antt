@@ -10,10 +10,6 @@ use Rattle.root.proofs.Laws.{root-eq}
 use Rattle.lowroots.specs.Found.{Finds, Sought}
 use Rattle.lowroots.specs.declared.Search.{Search}
 
--- the square of a number of which the code multiplies 32 bits
-pub square-fits : (b : ℕ) → b < 4294967296 → b * b ≤ 18446744065119617025
-square-fits b h = let k : b ≤ 4294967295 = omega arith in omega (arith, mul-le-mul k k)
-
 -- a difference of low halves is that of the numbers where this is small
 pub difference : (low g m square rest z : ℕ) → m ≡ g → square ≡ m * m % 4294967296 → (rest + square) % 4294967296 ≡ low → rest < 4294967296
     → z % 4294967296 ≡ low → g * g ≤ z → z < g * g + 2147483648 → rest % 2147483648 + g * g ≡ z

@@ -125,7 +125,7 @@ pub fn begin_all(values: &[u32], i: usize, g: u32, s: u32, x: u32) -> Channels
     let k = 4 * i;
     let m = 4 * (i + 1);
     if g <= 16384 {
-        let r = 18014398509481984 / (510 * (g as u64));
+        let r = color::inverse_of(g as u64);
         return Channels {
             red: begin_short_channel(values, k, m, g, s, x, r),
             green: begin_short_channel(values, k + 1, m + 1, g, s, x, r),

@@ -1,12 +1,12 @@
 -- `circleroots::circle_root` meets its contract. Assumes nothing.
 use native.Mathlib.Omega.{arith}
-use Rattle.circleroots.proofs.Guesses.{square-fits, guess-is}
+use Rattle.root.proofs.Near.{square-le, exact-is}
 use borrow.Author.Needs.{needs}
 use Rattle.circleroots.proofs.circle_root.Statement.{statement}
 use Rattle.circleroots.proofs.circle_root.Tie as tie
 
 mul-wrapping-sub-u64 : tie.Need-mul-wrapping-sub-u64
-mul-wrapping-sub-u64 c = omega (arith, square-fits (c .args .guess) (c .fits .guess .fits))
+mul-wrapping-sub-u64 c = omega (arith, square-le (c .args .guess) (c .fits .guess .fits))
 
 wrapping-sub-u64-requires : tie.Need-wrapping-sub-u64-requires
 wrapping-sub-u64-requires c κs = search needs
@@ -17,7 +17,7 @@ mul-if1 c = search needs
 returns : tie.Need-returns
 returns c =
     let s = c .before .before in
-    guess-is (s .args .d) (s .args .guess) (c .before .wrapping-sub-u64 .result) (s .fits .guess .fits) (c .before .wrapping-sub-u64 .ensures) (c .if1 .taken)
+    exact-is (s .args .d) (s .args .guess) (c .before .wrapping-sub-u64 .result) (c .before .wrapping-sub-u64 .ensures) (s .fits .guess .fits) (c .if1 .taken)
 
 ahead-requires : tie.Need-ahead-requires
 ahead-requires c κs = search needs

@@ -1,4 +1,5 @@
 -- `color::mix_stops` meets its contract. Assumes nothing.
+use native.Mathlib.Omega.{arith}
 use borrow.Author.Needs.{needs}
 use Rattle.color.proofs.mix_stops.Statement.{statement}
 use Rattle.color.proofs.mix_stops.Tie as tie
@@ -11,6 +12,9 @@ add-m c = search needs
 
 mul-m : tie.Need-mul-m
 mul-m c = search needs
+
+add-inverse-of : tie.Need-add-inverse-of
+add-inverse-of c = search needs
 
 inverse-of-requires : tie.Need-inverse-of-requires
 inverse-of-requires c κs = search needs
@@ -43,7 +47,9 @@ add-mix-channel-6 : tie.Need-add-mix-channel-6
 add-mix-channel-6 c = search needs
 
 mix-channel-requires-4 : tie.Need-mix-channel-requires-4
-mix-channel-requires-4 c κs = search needs
+mix-channel-requires-4 c κs =
+    let p = c .before .before .before .before .before .pre in
+    (omega (arith, p .0), omega (arith, p .0), p .1, p .2, c .before .before .before .inverse-of .ensures .1)
 
 returns : tie.Need-returns
 returns c = λ d. record {
@@ -60,6 +66,7 @@ mix-stops-spec =
     mul-k
     add-m
     mul-m
+    add-inverse-of
     inverse-of-requires
     mix-channel-requires
     add-mix-channel

@@ -2,7 +2,8 @@
 use mathlib.Core.Path.{refl}
 use Prim.Native.Nat.{ℕ, _%_}
 use native.Mathlib.Omega.{arith}
-use Rattle.lowroots.proofs.Found.{square-fits, four}
+use Rattle.root.proofs.Near.{square-le}
+use Rattle.lowroots.proofs.Found.{four}
 use borrow.Author.Needs.{needs}
 use Rattle.lowroots.proofs.among_4.Statement.{statement}
 use Rattle.lowroots.proofs.among_4.Tie as tie
@@ -13,7 +14,7 @@ cast-b : tie.Need-cast-b
 cast-b c = search needs
 
 mul-low-half : tie.Need-mul-low-half
-mul-low-half c = omega (arith, square-fits (c .args .g % 134217728) (omega arith))
+mul-low-half c = omega (arith, square-le (c .args .g % 134217728) (omega arith))
 
 low-half-requires : tie.Need-low-half-requires
 low-half-requires c κs = search needs

@@ -1,7 +1,8 @@
 -- `lowroots::begin` meets its contract. Assumes nothing.
 use Prim.Native.Nat.{_%_}
 use native.Mathlib.Omega.{arith}
-use Rattle.lowroots.proofs.Found.{square-fits, begun}
+use Rattle.root.proofs.Near.{square-le}
+use Rattle.lowroots.proofs.Found.{begun}
 use borrow.Author.Needs.{needs}
 use Rattle.lowroots.proofs.begin.Statement.{statement}
 use Rattle.lowroots.proofs.begin.Tie as tie
@@ -12,7 +13,7 @@ cast-b : tie.Need-cast-b
 cast-b c = search needs
 
 mul-low-half : tie.Need-mul-low-half
-mul-low-half c = omega (arith, square-fits (c .args .g % 4194304) (omega arith))
+mul-low-half c = omega (arith, square-le (c .args .g % 4194304) (omega arith))
 
 low-half-requires : tie.Need-low-half-requires
 low-half-requires c κs = search needs

@@ -1,5 +1,4 @@
 -- `walk::begin_all` meets its contract. Assumes nothing.
-use mathlib.Core.Path.{refl}
 use Prim.Native.Nat.{_+_}
 use native.Mathlib.Omega.{arith}
 use denote.Ref.{now}
@@ -20,11 +19,8 @@ add-m c = search needs
 mul-m : tie.Need-mul-m
 mul-m c = search needs
 
-mul-r : tie.Need-mul-r
-mul-r c = search needs
-
-div-r : tie.Need-div-r
-div-r c = search needs
+inverse-of-requires : tie.Need-inverse-of-requires
+inverse-of-requires c κs = search needs
 
 begin-short-channel-requires : tie.Need-begin-short-channel-requires
 begin-short-channel-requires c κs = search needs
@@ -37,8 +33,8 @@ add-begin-short-channel-2 c = search needs
 
 begin-short-channel-requires-2 : tie.Need-begin-short-channel-requires-2
 begin-short-channel-requires-2 c κs =
-    let p = c .before .before .before .pre in
-    (omega arith, omega arith, p .1, p .2, omega arith, refl)
+    let p = c .before .before .before .before .pre in
+    (omega arith, omega arith, p .1, p .2, omega arith, c .before .inverse-of .ensures .0)
 
 add-begin-short-channel-3 : tie.Need-add-begin-short-channel-3
 add-begin-short-channel-3 c = search needs
@@ -48,23 +44,23 @@ add-begin-short-channel-4 c = search needs
 
 begin-short-channel-requires-3 : tie.Need-begin-short-channel-requires-3
 begin-short-channel-requires-3 c κs =
-    let p = c .before .before .before .before .pre in
-    (omega arith, omega arith, p .1, p .2, omega arith, refl)
+    let p = c .before .before .before .before .before .pre in
+    (omega arith, omega arith, p .1, p .2, omega arith, c .before .before .inverse-of .ensures .0)
 
 add-begin-short-channel-5 : tie.Need-add-begin-short-channel-5
-add-begin-short-channel-5 c = omega arith
+add-begin-short-channel-5 c = search needs
 
 add-begin-short-channel-6 : tie.Need-add-begin-short-channel-6
-add-begin-short-channel-6 c = omega arith
+add-begin-short-channel-6 c = search needs
 
 begin-short-channel-requires-4 : tie.Need-begin-short-channel-requires-4
 begin-short-channel-requires-4 c κs =
-    let p = c .before .before .before .before .before .pre in
-    (omega arith, omega arith, p .1, p .2, omega arith, refl)
+    let p = c .before .before .before .before .before .before .pre in
+    (omega arith, omega arith, p .1, p .2, omega arith, c .before .before .before .inverse-of .ensures .0)
 
 returns : tie.Need-returns
 returns c =
-    let a = c .before .before .before .before .before .before .args in
+    let a = c .before .before .before .before .before .before .before .args in
     every (λ d. Walks (valuesAt (now (a .values)) (a .i) d) (valuesAt (now (a .values)) (a .i + 1) d) (a .g) (a .s) (a .x) 262144 (walkOf _ d))
     (c .before .before .before .begin-short-channel .ensures) (c .before .before .begin-short-channel2 .ensures)
     (c .before .begin-short-channel3 .ensures) (c .begin-short-channel4 .ensures)
@@ -112,8 +108,7 @@ begin-all-spec =
     mul-k
     add-m
     mul-m
-    mul-r
-    div-r
+    inverse-of-requires
     begin-short-channel-requires
     add-begin-short-channel
     add-begin-short-channel-2
