@@ -5,11 +5,9 @@ use mathlib.Core.Bool.{Bool, true, false}
 use mathlib.Core.List.{List}
 use Prim.Native.Nat.{ℕ, _+_, _-_, _*_, _≤_, _<_}
 use native.Mathlib.Nat.{mul-pos, zero-add}
-use native.Mathlib.Numerals.{add-one}
 use native.Mathlib.Omega.{arith}
 use lib.IntN.{pos}
-use lib.ListN.{length, getD, take, set}
-use lib.Seq.{length-take-le, take-suc}
+use lib.ListN.{length, getD}
 use Rattle.root.specs.Root.{rootOf}
 use Rattle.root.proofs.Laws.{root-eq}
 use Rattle.line.specs.Location.{locationBy, squared}
@@ -19,9 +17,8 @@ use Rattle.line.specs.declared.Line.the-variants as L
 use Rattle.line.proofs.Lines.{norm-is, square-is}
 use Rattle.color.specs.Byte.{bytes, colorAt}
 use Rattle.color.specs.Lent.{Lent, stopsOf}
-use Rattle.picture.specs.Picture.{row, copies, strip, patched}
+use Rattle.picture.specs.Picture.{row, copies, strip}
 use Rattle.picture.proofs.Rows.{joined-same, strip-copies}
-use Rattle.picture.proofs.Patches.{set-step}
 use Rattle.words.specs.Word.{wordBytes}
 use Rattle.table.specs.Table.{entryOf, Spaced}
 use Rattle.table.proofs.Packing.{entry-bytes}
@@ -106,10 +103,3 @@ module _ (ps vs : List ℕ) (lent : Lent ps vs) where
             let c = row-place (v .up) h a b j l o q in
             entry-pixel base t (placeOf (v .up) (b - a) (j - a)) (locationBy (ruleIn (L.Straight v) w h) i j) sp (omega (arith, c .1))
             (ap (λ (z : ℕ). z + placeOf (v .up) (b - a) (j - a) * 64) f ∙ c .0 ∙ sym (upright-is v w h i j some m (omega arith) e))
-
--- a turn of a loop that copies
-pub copied-more : (d b s : List ℕ) (at i : ℕ) → i < length s → at + i < length d → b ≡ patched d at (take i s)
-    → set b (at + i) (getD s i 0) ≡ patched d at (take (i + 1) s)
-copied-more d b s at i l k p =
-    let n : length (take i s) ≡ i = length-take-le i s (omega arith) in
-    rw (add-one i, take-suc s i 0 l) (set-step d (take i s) b at (at + i) _ (omega arith) k p)

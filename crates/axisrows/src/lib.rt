@@ -69,18 +69,6 @@ fn write_row(t: &[u32], back: bool, w: usize, bytes: &mut [u8])
     }
 }
 
-// Copies all of `bytes` to `at`.
-fn copy_in(buf: &mut [u8], at: usize, bytes: &[u8])
-    requires { ⌜ at + length (now bytes) ≤ length (now buf) ⌝ }
-    ensures { λ _. ⌜ now (buf .exit) ≡ patched (now (buf .entry)) at (now (bytes .entry)) ⌝ }
-{
-    let mut i = 0;
-    while i < bytes.len() {
-        buf[at + i] = bytes[i];
-        i += 1;
-    }
-}
-
 // Copies all of `bytes` n times from the buffer's start on.
 fn copy_times(buf: &mut [u8], bytes: &[u8], n: usize)
     requires { ⌜ length (now bytes) * n ≤ length (now buf) ⌝ }
@@ -89,7 +77,7 @@ fn copy_times(buf: &mut [u8], bytes: &[u8], n: usize)
     let mut j = 0;
     let mut o = 0;
     while j < n {
-        copy_in(buf, o, bytes);
+        picture::copy_in(buf, o, bytes);
         o += bytes.len();
         j += 1;
     }
@@ -104,7 +92,7 @@ fn copy_blocks(buf: &mut [u8], block: &mut [u8], k: usize, bytes: &[u8], n: usiz
     copy_times(buf, block, n / k);
     let o = block.len() * (n / k);
     let rest = bytes.len() * (n % k);
-    copy_in(buf, o, &block[..rest]);
+    picture::copy_in(buf, o, &block[..rest]);
 }
 
 // Draws n rows of a small box with the entries' bytes, by blocks. Here and below what is copied from is an array of the function's own: a compiler

@@ -8,7 +8,7 @@ ghost use Prim.Native.Nat.{ℕ, _+_, _*_, _≤_, _<_};
 ghost use lib.ListN.{length};
 ghost use Rattle.line.specs.declared.HeldVector.{HeldVector};
 ghost use Rattle.color.specs.Lent.{Lent};
-ghost use Rattle.picture.specs.Picture.{row, part, patched};
+ghost use Rattle.picture.specs.Picture.{part, patched};
 ghost use Rattle.rows.specs.Pixel.{lentPixel};
 ghost use Rattle.fixed.specs.Steps.{Follows};
 ghost use Rattle.table.specs.Table.{Table};
@@ -85,44 +85,5 @@ pub fn draw_part(
         draw_sure(t, base, r, i, n, at, buf);
     } else {
         draw_each(t, base, positions, values, r, v, w, h, j, i, n, at, buf);
-    }
-}
-
-// Draws row j from `at` on, 256 pixels at a time.
-pub fn draw_row(
-    t: &[u32],
-    base: u32,
-    positions: &[u32],
-    values: &[u32],
-    r: RowLine,
-    v: HeldVector,
-    w: usize,
-    h: usize,
-    j: usize,
-    at: usize,
-    buf: &mut [u8],
-)
-    requires { ⌜ Lent (now positions) (now values) × Table (now positions) (now values) base (now t) × Follows r v w h j × (at + 4 * w ≤ length (now buf)) ⌝ }
-    ensures { λ _. ⌜ now (buf .exit) ≡ patched (now (buf .entry)) at (row (lentPixel (now (positions .entry)) (now (values .entry)) (Line.Straight v) w h) w j) ⌝ }
-{
-    let mut i = 0;
-    while i < w {
-        let n = picture::at_most(256, w - i);
-        draw_part(
-            t,
-            base,
-            positions,
-            values,
-            r,
-            v,
-            w,
-            h,
-            j,
-            i,
-            n,
-            at + 4 * i,
-            buf,
-        );
-        i += n;
     }
 }

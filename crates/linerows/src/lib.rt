@@ -1,5 +1,4 @@
 // Rows of a picture along a straight line, by fixed-point locations and a table of colors. The same bytes as by `rows`, sooner.
-use fixed::RowLine;
 use fixed::Steps;
 use line::HeldVector;
 use line::Line;
@@ -10,38 +9,40 @@ ghost use lib.ListN.{length};
 ghost use Rattle.line.specs.Box.{Box};
 ghost use Rattle.line.specs.Held.{Bounded};
 ghost use Rattle.color.specs.Lent.{Lent};
-ghost use Rattle.picture.specs.Picture.{row, strip, patched};
+ghost use Rattle.picture.specs.Picture.{strip, patched};
 ghost use Rattle.rows.specs.Pixel.{Strip, lentPixel};
-ghost use Rattle.fixed.specs.Steps.{Steady, Follows};
+ghost use Rattle.fixed.specs.Steps.{Steady};
 ghost use Rattle.table.specs.Table.{Table};
 ghost use Rattle.shifted.specs.Shift.{Even, Shifted};
 ghost use Rattle.linerows.specs.Straight.{Straight};
 
-// Draws row j from `at` on: by the table, if it has entries.
-fn draw_row(
-    t: &[u32],
-    base: u32,
+// Draws rows a up to b from the buffer's start, with no table.
+fn draw_few_rows(
     positions: &[u32],
     values: &[u32],
-    r: RowLine,
+    steps: Steps,
     v: HeldVector,
     w: usize,
     h: usize,
-    j: usize,
-    at: usize,
+    a: usize,
+    b: usize,
     buf: &mut [u8],
 )
-    requires { ⌜ Lent (now positions) (now values) × Table (now positions) (now values) base (now t) × Follows r v w h j × (at + 4 * w ≤ length (now buf)) ⌝ }
-    ensures { λ _. ⌜ now (buf .exit) ≡ patched (now (buf .entry)) at (row (lentPixel (now (positions .entry)) (now (values .entry)) (Line.Straight v) w h) w j) ⌝ }
+    requires { ⌜ Lent (now positions) (now values) × Box w h × Steady steps v × Strip w h a b (length (now buf)) ⌝ }
+    ensures { λ _. ⌜ now (buf .exit) ≡ patched (now (buf .entry)) 0 (strip (lentPixel (now (positions .entry)) (now (values .entry)) (Line.Straight v) w h) w a b) ⌝ }
 {
-    if t.len() == 0 {
-        shifted::draw_few(positions, values, r, v, w, h, j, 0, w, at, buf);
-    } else {
-        lineparts::draw_row(t, base, positions, values, r, v, w, h, j, at, buf);
+    let n = 4 * w;
+    let mut j = a;
+    let mut o = 0;
+    while j < b {
+        let r = fixed::row_line(steps, v, w, h, j);
+        shifted::draw_few(positions, values, r, v, w, h, j, 0, w, o, buf);
+        o += n;
+        j += 1;
     }
 }
 
-// Draws rows a up to b from the buffer's start, with a table of the colors from `base` on, which may be empty.
+// Draws rows a up to b from the buffer's start: by the table of the colors from `base` on, if it has entries.
 fn draw_rows(
     t: &[u32],
     base: u32,
@@ -58,14 +59,10 @@ fn draw_rows(
     requires { ⌜ Lent (now positions) (now values) × Table (now positions) (now values) base (now t) × Box w h × Steady steps v × Strip w h a b (length (now buf)) ⌝ }
     ensures { λ _. ⌜ now (buf .exit) ≡ patched (now (buf .entry)) 0 (strip (lentPixel (now (positions .entry)) (now (values .entry)) (Line.Straight v) w h) w a b) ⌝ }
 {
-    let n = 4 * w;
-    let mut j = a;
-    let mut o = 0;
-    while j < b {
-        let r = fixed::row_line(steps, v, w, h, j);
-        draw_row(t, base, positions, values, r, v, w, h, j, o, buf);
-        o += n;
-        j += 1;
+    if t.len() == 0 {
+        draw_few_rows(positions, values, steps, v, w, h, a, b, buf);
+    } else {
+        tiles::draw_tiles(t, base, positions, values, steps, v, w, h, a, b, buf);
     }
 }
 
@@ -234,24 +231,21 @@ fn entries(s: Shift, w: usize, rows: usize, n: usize) -> usize
     n
 }
 
-// The table that rows a up to b are drawn with, and how they are copied.
+// The table that rows a up to b are drawn with.
 struct Plan {
     base: u32,
     entries: usize,
-    shift: Shift,
 }
 
-fn plan_of(v: HeldVector, w: usize, h: usize, a: usize, b: usize, most: usize) -> Plan
+fn plan_of(v: HeldVector, s: Shift, w: usize, h: usize, a: usize, b: usize, most: usize) -> Plan
     requires { ⌜ Box w h × Bounded v × (a < b) × (b ≤ h) ⌝ }
-    ensures { λ r. ⌜ (r .base ≤ 33000000) × (r .entries ≤ most) × Even v (r .shift) ⌝ }
+    ensures { λ r. ⌜ (r .base ≤ 33000000) × (r .entries ≤ most) ⌝ }
 {
     let first = corner(v, w, h, a, b, v.left, v.up);
     let last = corner(v, w, h, a, b, !v.left, !v.up);
-    let s = shifted::shift_of(v);
     Plan {
         base: table::base_of(first),
         entries: entries(s, w, b - a, table::span(first, last, most)),
-        shift: s,
     }
 }
 
@@ -269,8 +263,12 @@ pub fn draw_small_box(
     requires { ⌜ Straight (now positions) (now values) v w h a b (length (now buf)) ⌝ }
     ensures { λ _. ⌜ now (buf .exit) ≡ patched (now (buf .entry)) 0 (strip (lentPixel (now (positions .entry)) (now (values .entry)) (Line.Straight v) w h) w a b) ⌝ }
 {
-    let p = plan_of(v, w, h, a, b, 6144);
-    let s = p.shift;
+    let s = shifted::shift_of(v);
+    if windows::fits(s, w, b - a) {
+        windows::draw_windows(positions, values, v, s, w, h, a, b, buf);
+        return;
+    }
+    let p = plan_of(v, s, w, h, a, b, 6144);
     if p.entries == 0 {
         draw_bare(positions, values, v, s, w, h, a, b, buf);
     } else {
@@ -292,8 +290,8 @@ pub fn draw_straight(
     requires { ⌜ Straight (now positions) (now values) v w h a b (length (now buf)) ⌝ }
     ensures { λ _. ⌜ now (buf .exit) ≡ patched (now (buf .entry)) 0 (strip (lentPixel (now (positions .entry)) (now (values .entry)) (Line.Straight v) w h) w a b) ⌝ }
 {
-    let p = plan_of(v, w, h, a, b, 185408);
-    let s = p.shift;
+    let s = shifted::shift_of(v);
+    let p = plan_of(v, s, w, h, a, b, 185408);
     if p.entries == 0 {
         draw_bare(positions, values, v, s, w, h, a, b, buf);
     } else if p.entries <= 16384 {

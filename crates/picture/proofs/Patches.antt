@@ -1,6 +1,6 @@
 -- Laws of writes: `patched d at s` is d with s in place of what stands from `at` on.
 -- Assumes nothing.
-use mathlib.Core.Path.{_≡_, refl, sym, ap, _∙_}
+use mathlib.Core.Path.{_≡_, refl, sym, ap, ap₂, _∙_}
 use mathlib.Core.List.{List, [], _∷_, _++_, append-assoc, append-nil}
 use Prim.Native.Nat.{ℕ, zero, suc, _+_, _-_, _≤_, _<_}
 use native.Mathlib.Nat.{add-zero, add-assoc}
@@ -51,6 +51,21 @@ module _ {A : Type 0} where
   -- everything anew
   pub patch-all : (d s : List A) → length s ≡ length d → patched d 0 s ≡ s
   patch-all d s e = patch-end d s 0 (omega arith)
+
+  -- a patch within a patch
+  pub patch-within : (d p m q t : List A) (at o : ℕ) → length m ≡ length t → at ≤ length d → o ≡ at + length p
+      → patched (patched d at (p ++ m ++ q)) o t ≡ patched d at (p ++ t ++ q)
+  patch-within d p m q t at o e h f =
+      let r : List A = drop (at + length (p ++ m ++ q)) d in
+      let u : List A = take at d ++ p in
+      let l : length u ≡ o = rw (length-append, length-take-le at d h) (sym f) in
+      let g : take at d ++ (p ++ m ++ q) ++ r ≡ u ++ (m ++ (q ++ r)) = simp append-assoc in
+      let n : length (p ++ m ++ q) ≡ length (p ++ t ++ q) = rw (length-append, length-append, length-append, length-append, e) in
+      let v : drop (o + length t) (u ++ (m ++ (q ++ r))) ≡ q ++ r = rw (← l, drop-append-add, drop-at m (q ++ r) (length t) e) in
+      ap (λ (x : List A). take o x ++ t ++ drop (o + length t) x) g
+      ∙ ap₂ (λ (x y : List A). x ++ t ++ y) (take-at u (m ++ (q ++ r)) o l) v
+      ∙ ap (λ (k : ℕ). u ++ t ++ (q ++ drop (at + k) d)) n
+      ∙ simp append-assoc
 
   -- an element before the patch
   pub patch-before : (d s : List A) (at i : ℕ) (z : A) → at ≤ length d → i < at → getD (patched d at s) i z ≡ getD d i z
@@ -121,28 +136,36 @@ module _ {A : Type 0} where
       ∙ sym (front (take at d) (drop at d) from n (omega arith))
       ∙ ap (λ (x : List A). take n (drop from x)) (take-append-drop at d)
 
-  -- a turn of a loop that copies what stands from `from` on, k at a time
+  -- a turn of a loop that copies a list: an element, and k at a time
+  pub piece-more : (d b s : List A) (at i : ℕ) (z : A) → i < length s → at + i < length d → b ≡ patched d at (take i s)
+      → set b (at + i) (getD s i z) ≡ patched d at (take (i + 1) s)
+  piece-more d b s at i z l k p =
+      let n : length (take i s) ≡ i = length-take-le i s (omega arith) in
+      rw (add-one i, take-suc s i z l) (set-step d (take i s) b at (at + i) _ (omega arith) k p)
+
+  pub pieces-more : (d b b′ s : List A) (at i k : ℕ) → i + k ≤ length s → at + (i + k) ≤ length d → b ≡ patched d at (take i s)
+      → b′ ≡ patched b (at + i) (take k (drop i s)) → b′ ≡ patched d at (take (i + k) s)
+  pieces-more d b b′ s at i k h l p q =
+      let ns : length (take i s) ≡ i = length-take-le i s (omega arith) in
+      let nt : length (take k (drop i s)) ≡ k = length-take-le k (drop i s) (rw length-drop (omega arith)) in
+      rw (take-add i k s) (patch-step d (take i s) (take k (drop i s)) b b′ at (at + i) (omega arith) (omega arith) p q)
+
+  -- .. and of one that copies what stands from `from` on to a later place
   pub copies-step : (d b b′ : List A) (from to i k : ℕ) → from + (i + k) ≤ to → to + (i + k) ≤ length d → b ≡ patched d to (take i (drop from d))
       → b′ ≡ patched b (to + i) (take k (drop (from + i) b)) → b′ ≡ patched d to (take (i + k) (drop from d))
   copies-step d b b′ from to i k h l p q =
-      let s : List A = take i (drop from d) in
-      let t : List A = take k (drop i (drop from d)) in
       let n : length (drop from d) ≡ length d - from = length-drop from d in
-      let ns : length s ≡ i = length-take-le i (drop from d) (omega arith) in
-      let nt : length t ≡ k = length-take-le k (drop i (drop from d)) (rw length-drop (omega arith)) in
-      let e : take k (drop (from + i) b) ≡ t =
-      ap (λ (x : List A). take k (drop (from + i) x)) p ∙ patch-kept d s to (from + i) k (omega arith) (omega arith) ∙ ap (take k) (sym (drop-drop i from d)) in
-      rw (take-add i k (drop from d)) (patch-step d s t b b′ to (to + i) (omega arith) (omega arith) p (q ∙ ap (patched b (to + i)) e))
+      let e : take k (drop (from + i) b) ≡ take k (drop i (drop from d)) =
+      ap (λ (x : List A). take k (drop (from + i) x)) p ∙ patch-kept d (take i (drop from d)) to (from + i) k (omega arith) (omega arith) ∙ ap (take k) (sym (drop-drop i from d)) in
+      pieces-more d b b′ (drop from d) to i k (omega arith) l p (q ∙ ap (patched b (to + i)) e)
 
-  -- a turn of a loop that copies what stands from `from` on
   pub copy-step : (d b : List A) (from to i : ℕ) (z : A) → from + i < to → to + i < length d → b ≡ patched d to (take i (drop from d))
       → set b (to + i) (getD b (from + i) z) ≡ patched d to (take (i + 1) (drop from d))
   copy-step d b from to i z h k p =
       let l : i < length (drop from d) = rw length-drop (omega arith) in
-      let n : length (take i (drop from d)) ≡ i = length-take-le i (drop from d) (omega arith) in
       let v : getD b (from + i) z ≡ getD (drop from d) i z =
       ap (λ (x : List A). getD x (from + i) z) p ∙ patch-before d (take i (drop from d)) to (from + i) z (omega arith) h ∙ sym (getD-drop from d i z) in
-      rw (v, add-one i, take-suc (drop from d) i z l) (set-step d (take i (drop from d)) b to (to + i) _ (omega arith) k p)
+      rw v (piece-more d b (drop from d) to i z l k p)
 
 -- ---- the buffer after a call
 -- s written from the start on, then zeros from its end on

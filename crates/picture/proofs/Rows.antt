@@ -93,10 +93,10 @@ module _ {A : Type 0} (px : ℕ → ℕ → List A) where
   unfolding part
   part-add i m n j = joined-add (λ (k : ℕ). px k j) i m n
 
-  -- two parts of equal pixels
-  pub parts-alike : (i k n j m : ℕ) → ((p : ℕ) → p < n → px (i + p) j ≡ px (k + p) m) → part px i n j ≡ part px k n m
+  -- two parts of equal pixels, of two pictures or of one
+  pub parts-alike : (qx : ℕ → ℕ → List A) (i k n j m : ℕ) → ((p : ℕ) → p < n → px (i + p) j ≡ qx (k + p) m) → part px i n j ≡ part qx k n m
   unfolding part
-  parts-alike i k n j m h = joined-same (λ (p : ℕ). px p j) (λ (p : ℕ). px p m) i k n h
+  parts-alike qx i k n j m h = joined-same (λ (p : ℕ). px p j) (λ (p : ℕ). qx p m) i k n h
 
   pub strip-none : (w a : ℕ) → strip px w a a ≡ []
   unfolding strip
@@ -122,6 +122,13 @@ module _ {A : Type 0} (px : ℕ → ℕ → List A) where
   pub strip-split : (w a k b : ℕ) → a ≤ k → k < b → strip px w a b ≡ strip px w a k ++ row px w k ++ strip px w (k + 1) b
   strip-split w a k b h l =
       sym (ap (λ (s : List A). s ++ strip px w (k + 1) b) (sym (strip-more w a k h)) ∙ strip-join w a (k + 1) b (omega arith) (omega arith))
+
+  -- two strips of equal pixels
+  pub strips-alike : (qx : ℕ → ℕ → List A) (w a b : ℕ) → ((i j : ℕ) → i < w → a ≤ j → j < b → px i j ≡ qx i j) → strip px w a b ≡ strip qx w a b
+  unfolding strip row
+  strips-alike qx w a b h =
+      joined-same (row px w) (row qx w) a a (b - a)
+      (λ k l. joined-same (λ (i : ℕ). px i (a + k)) (λ (i : ℕ). qx i (a + k)) 0 0 w (λ i m. rw zero-add (h i (a + k) m (omega arith) (omega arith))))
 
   -- two rows of equal pixels
   pub rows-alike : (w j k : ℕ) → ((i : ℕ) → i < w → px i j ≡ px i k) → row px w j ≡ row px w k

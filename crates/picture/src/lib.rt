@@ -68,3 +68,29 @@ pub fn copy_row(buf: &mut [u8], from: usize, to: usize, n: usize)
         i += k;
     }
 }
+
+// Copies all of `bytes` to `at`.
+fn copy_piece(buf: &mut [u8], at: usize, bytes: &[u8])
+    requires { ⌜ at + length (now bytes) ≤ length (now buf) ⌝ }
+    ensures { λ _. ⌜ now (buf .exit) ≡ patched (now (buf .entry)) at (now (bytes .entry)) ⌝ }
+{
+    let mut i = 0;
+    while i < bytes.len() {
+        buf[at + i] = bytes[i];
+        i += 1;
+    }
+}
+
+// Copies all of `bytes` to `at`, 512 at a time: so many the C library reads before it writes any, so that it makes no difference where in their
+// pages the two stand.
+pub fn copy_in(buf: &mut [u8], at: usize, bytes: &[u8])
+    requires { ⌜ at + length (now bytes) ≤ length (now buf) ⌝ }
+    ensures { λ _. ⌜ now (buf .exit) ≡ patched (now (buf .entry)) at (now (bytes .entry)) ⌝ }
+{
+    let mut i = 0;
+    while i < bytes.len() {
+        let end = i + at_most(512, bytes.len() - i);
+        copy_piece(buf, at + i, &bytes[i..end]);
+        i = end;
+    }
+}

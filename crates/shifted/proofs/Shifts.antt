@@ -34,7 +34,7 @@ back : (w c p : ℕ) → c + p < w → oddOf true w p ≡ oddOf true w (c + p) +
 back w c p h = omega arith
 
 -- r rows on is as far as c columns on
-as-far : (m n x y c r : ℕ) → x * c ≡ y * r → m * x + (n + 2 * r) * y ≡ (m + 2 * c) * x + n * y
+pub as-far : (m n x y c r : ℕ) → x * c ≡ y * r → m * x + (n + 2 * r) * y ≡ (m + 2 * c) * x + n * y
 as-far m n x y c r e = omega arith
 
 module _ (w h x y r c p k : ℕ) (e : x * c ≡ y * r) (inside : c + p < w) (below : r + k < h) where
@@ -52,33 +52,33 @@ module _ (w h x y r c p k : ℕ) (e : x * c ≡ y * r) (inside : c + p < w) (bel
   far-behind false true q = rw (on w c p, back h r k below) (sym (as-far _ _ x y c r e))
   far-behind false false q = absurd (true≢false q)
 
--- pixels that are as far along the vector are the same
-module _ (ps vs : List ℕ) (v : HeldVector) (w h : ℕ) where
-  same-pixel : (i j k m : ℕ) → i < w → j < h → k < w → m < h
-      → oddOf (v .left) w i * v .x + oddOf (v .up) h j * v .y ≡ oddOf (v .left) w k * v .x + oddOf (v .up) h m * v .y
-      → lentPixel ps vs (L.Straight v) w h i j ≡ lentPixel ps vs (L.Straight v) w h k m
-  unfolding locationBy
-  same-pixel i j k m hi hj hk hm e =
-      ap (λ (q : ℕ). bytes (colorAt (stopsOf ps vs) (pos (rootOf (norm (vectorIn v)) q))))
-      (square-is (v .left) (v .up) w h (v .x) (v .y) i j hi hj
-      ∙ ap (λ (q : ℕ). squared (32 * q)) e
-      ∙ sym (square-is (v .left) (v .up) w h (v .x) (v .y) k m hk hm))
+-- pixels that are as far along the vector are the same, also in boxes of two widths
+pub same-pixel : (ps vs : List ℕ) (v : HeldVector) (w u h i j k m : ℕ) → i < w → j < h → k < u → m < h
+    → oddOf (v .left) w i * v .x + oddOf (v .up) h j * v .y ≡ oddOf (v .left) u k * v .x + oddOf (v .up) h m * v .y
+    → lentPixel ps vs (L.Straight v) w h i j ≡ lentPixel ps vs (L.Straight v) u h k m
+unfolding locationBy
+same-pixel ps vs v w u h i j k m hi hj hk hm e =
+    ap (λ (q : ℕ). bytes (colorAt (stopsOf ps vs) (pos (rootOf (norm (vectorIn v)) q))))
+    (square-is (v .left) (v .up) w h (v .x) (v .y) i j hi hj
+    ∙ ap (λ (q : ℕ). squared (32 * q)) e
+    ∙ sym (square-is (v .left) (v .up) u h (v .x) (v .y) k m hk hm))
 
+module _ (ps vs : List ℕ) (v : HeldVector) (w h : ℕ) where
   module _ (r c k n : ℕ) (e : v .x * c ≡ v .y * r) (inside : c + n ≤ w) (below : r + k < h) where
     -- the first n pixels of a row are those of the row before it by the shift, from pixel c on
     moved-ahead : Bool·beq (v .left) (v .up) ≡ true → part (lentPixel ps vs (L.Straight v) w h) 0 n (r + k) ≡ part (lentPixel ps vs (L.Straight v) w h) c n k
     moved-ahead q =
-        parts-alike (lentPixel ps vs (L.Straight v) w h) 0 c n (r + k) k
+        parts-alike (lentPixel ps vs (L.Straight v) w h) (lentPixel ps vs (L.Straight v) w h) 0 c n (r + k) k
         (λ p l. rw zero-add
-        (same-pixel p (r + k) (c + p) k (omega arith) below (omega arith) (omega arith)
+        (same-pixel ps vs v w w h p (r + k) (c + p) k (omega arith) below (omega arith) (omega arith)
         (far-ahead w h (v .x) (v .y) r c p k e (omega arith) below (v .left) (v .up) q)))
 
     -- or from pixel c on they are its first
     moved-behind : Bool·beq (v .left) (v .up) ≡ false → part (lentPixel ps vs (L.Straight v) w h) c n (r + k) ≡ part (lentPixel ps vs (L.Straight v) w h) 0 n k
     moved-behind q =
-        parts-alike (lentPixel ps vs (L.Straight v) w h) c 0 n (r + k) k
+        parts-alike (lentPixel ps vs (L.Straight v) w h) (lentPixel ps vs (L.Straight v) w h) c 0 n (r + k) k
         (λ p l. rw zero-add
-        (same-pixel (c + p) (r + k) p k (omega arith) below (omega arith) (omega arith)
+        (same-pixel ps vs v w w h (c + p) (r + k) p k (omega arith) below (omega arith) (omega arith)
         (far-behind w h (v .x) (v .y) r c p k e (omega arith) below (v .left) (v .up) q)))
 
 -- ---- where the row before row j by r rows stands, by rows of n bytes from row a on
@@ -93,7 +93,7 @@ row-before n a j r f o h e g =
 -- ---- what stands in a buffer
 module _ (px : ℕ → ℕ → List ℕ) (each : (i j : ℕ) → length (px i j) ≡ 4) where
   -- n pixels of a row that stands, from pixel i on
-  part-stands : (w k i n m from : ℕ) (d : List ℕ) → i + n + m ≡ w → from ≤ length d → Stands (row px w k) from d
+  pub part-stands : (w k i n m from : ℕ) (d : List ℕ) → i + n + m ≡ w → from ≤ length d → Stands (row px w k) from d
       → take (4 * n) (drop (from + 4 * i) d) ≡ part px i n k
   part-stands w k i n m from d e l s =
       let split : row px w k ≡ part px 0 i k ++ part px i n k ++ part px (i + n) m k =

@@ -1,15 +1,14 @@
--- `axisrows::copy_in` meets its contract. The invariant: the first i bytes stand from `at` on. Assumes nothing.
+-- `picture::copy_piece` meets its contract. The invariant: the first i bytes stand from `at` on. Assumes nothing.
 use mathlib.Core.Path.{_≡_, refl}
 use Prim.Native.Nat.{_-_, _≤_}
 use native.Mathlib.Omega.{arith}
 use lib.ListN.{length, take, length-set}
 use lib.Seq.{take-length}
 use denote.Ref.{now}
 use Rattle.picture.specs.Picture.{patched}
-use Rattle.picture.proofs.Patches.{patch-none}
-use Rattle.axisrows.proofs.Axis.{copied-more}
-use Rattle.axisrows.proofs.copy_in.Statement.{statement}
-use Rattle.axisrows.proofs.copy_in.Tie as tie
+use Rattle.picture.proofs.Patches.{patch-none, piece-more}
+use Rattle.picture.proofs.copy_piece.Statement.{statement}
+use Rattle.picture.proofs.copy_piece.Tie as tie
 
 abbrev Inv-loop : tie.InvT-loop
 Inv-loop buf₀ at bytes i₀ buf i =
@@ -40,7 +39,7 @@ loop-again : tie.Need-loop-again Inv-loop μ-loop
 loop-again c =
     let a = c .before .before .before .args in
     let l = c .before .before .loop in
-    (copied-more (now (a .buf)) (l .buf) (now (a .bytes)) (a .at) (l .i) (omega arith) (omega arith) (l .inv .0), omega arith, simp length-set (omega arith))
+    (piece-more (now (a .buf)) (l .buf) (now (a .bytes)) (a .at) (l .i) 0 (omega arith) (omega arith) (l .inv .0), omega arith, simp length-set (omega arith))
 
 same-length : tie.Need-same-length Inv-loop μ-loop
 same-length c = c .before .loop .inv .2
@@ -51,8 +50,8 @@ returns c =
     let e : c .before .loop .i ≡ length (now (a .bytes)) = omega arith in
     rw (e, take-length) at (c .before .loop .inv .0)
 
-pub copy-in-spec : {M : Type 1} → statement M
-copy-in-spec =
+pub copy-piece-spec : {M : Type 1} → statement M
+copy-piece-spec =
     tie.close
     (tie.spec
     Inv-loop
