@@ -2,9 +2,10 @@
 -- Assumes nothing.
 use mathlib.Core.Path.{_≡_, refl, sym, ap, subst, _∙_}
 use mathlib.Core.List.{List, [], _∷_, _++_}
-use mathlib.Core.Bool.{Bool, true, false, cond}
+use mathlib.Core.Bool.{Bool, true, false, cond, true≢false}
 use Prim.Native.Nat.{ℕ, zero, suc, _-_, _≤_, _<_, zero-le, suc-le-suc}
 use native.Mathlib.Nat.{le-of-suc-le-suc, not-suc-le-zero, suc-inj, suc-ne-zero}
+use native.Mathlib.Decide.{decLe}
 use native.Mathlib.Omega.{arith}
 use lib.Dec.{eqb, leb}
 use lib.ListN.{length, getD, take}
@@ -61,6 +62,31 @@ module _ {A : Type 0} (f : A → Bool) (d : A) where
     after = λ i p q. absurd (not-suc-le-zero q);
   }
   last (a ∷ l) = last-cons a l (lastPlace f l) (f a) refl (last l)
+
+-- there is one such place
+not-later : {A : Type 0} (f : A → Bool) (l : List A) (d : A) (k m : ℕ) → Last f l d k → Last f l d m → k < m → ⊥
+not-later f l d k m h g p =
+    true≢false (sym (g .here (m - 1) (omega arith)) ∙ h .after (m - 1) (omega arith) (omega (arith, g .within)))
+
+-- the last position at or below `at` is the one before place k, if it is at or below and all from there on are above
+pub last-is : (ps : List ℕ) (at k : ℕ) → k ≤ length ps → ((i : ℕ) → k ≡ suc i → getD ps i 0 ≤ at)
+    → ((i : ℕ) → k ≤ i → i < length ps → at < getD ps i 0) → k ≡ lastUpTo ps at
+last-is ps at k l before after = either (decLe k (lastUpTo ps at)) (decLe (lastUpTo ps at) k)
+  where
+    here : Last (λ (p : ℕ). leb p at) ps 0 k
+    here = record {
+      within = l;
+      here = λ i e. le-leb (getD ps i 0) at (before i e);
+      after = λ i m n. lt-leb (getD ps i 0) at (after i m n);
+    }
+
+    there : Last (λ (p : ℕ). leb p at) ps 0 (lastUpTo ps at)
+    there = last (λ (p : ℕ). leb p at) 0 ps
+
+    either : Dec (k ≤ lastUpTo ps at) → Dec (lastUpTo ps at ≤ k) → k ≡ lastUpTo ps at
+    either (yes p) (yes q) = omega arith
+    either (no p) _ = absurd (not-later (λ (x : ℕ). leb x at) ps 0 (lastUpTo ps at) k there here (omega arith))
+    either (yes p) (no q) = absurd (not-later (λ (x : ℕ). leb x at) ps 0 k (lastUpTo ps at) here there (omega arith))
 
 -- the one or two stops around t: of two the first is at or below t, and the second above
 pub data View (stops : List Stop) (t : Location) : Around → Type 0 where

@@ -1,7 +1,6 @@
 -- Locations that have the same stops around them, and their colors by walks.
 -- Assumes nothing.
 use mathlib.Core.Path.{_≡_, refl, sym, ap, _∙_, fun-ext}
-use mathlib.Core.Bool.{Bool, true, false, true≢false}
 use mathlib.Core.List.{List}
 use Prim.Native.Nat.{ℕ, suc, _+_, _-_, _*_, _/_, _%_, _≤_, _<_}
 use native.Mathlib.Numerals.{add-one}
@@ -9,12 +8,11 @@ use native.Mathlib.Decide.{decLe}
 use native.Mathlib.Omega.{arith}
 use lib.Dec.{leb}
 use lib.ListN.{length, getD}
-use borrow.Author.Tests.{le-leb, lt-leb}
 use Rattle.numbers.specs.Fraction.{nearest}
 use Rattle.color.specs.Stop.{Channel}
 use Rattle.color.specs.Byte.{rgba}
 use Rattle.color.specs.Lent.{Lent, valuesAt, lastUpTo, mix}
-use Rattle.color.proofs.Place.{Last, last}
+use Rattle.color.proofs.Place.{last, last-is}
 use Rattle.color.proofs.Lent.{color-first, color-last, between, color-between}
 use Rattle.walk.specs.Walk.{scale, Walks}
 use Rattle.walk.specs.Channels.{walkOf, Going}
@@ -24,29 +22,10 @@ use Rattle.walk.proofs.Walks.{walk-small, walk-byte, walk-fits, walk-further}
 use Rattle.spans.specs.Span.{byteOn, OneColor, Placed, Colored}
 
 -- ---- the last position at or below
-not-later : {A : Type 0} (f : A → Bool) (l : List A) (d : A) (k m : ℕ) → Last f l d k → Last f l d m → k < m → ⊥
-not-later f l d k m h g p =
-    true≢false (sym (g .here (m - 1) (omega arith)) ∙ h .after (m - 1) (omega arith) (omega (arith, g .within)))
-
 -- positions from place k on that are not below b, and the one before that is not above a
-placed-within : (ps : List ℕ) (at k a b : ℕ) → k ≡ lastUpTo ps at → ((i : ℕ) → k ≤ i → i < length ps → b ≤ getD ps i 0)
+placed-within : (ps : List ℕ) (k a b : ℕ) → k ≤ length ps → ((i : ℕ) → k ≤ i → i < length ps → b ≤ getD ps i 0)
     → ((i : ℕ) → k ≡ suc i → getD ps i 0 ≤ a) → Placed ps k a b
-placed-within ps at k a b e after before s l m = either (decLe k (lastUpTo ps s)) (decLe (lastUpTo ps s) k)
-  where
-    here : Last (λ (p : ℕ). leb p s) ps 0 k
-    here = record {
-      within = omega (arith, e, last (λ (p : ℕ). leb p at) 0 ps .within);
-      here = λ i q. le-leb (getD ps i 0) s (omega (arith, before i q));
-      after = λ i q r. lt-leb (getD ps i 0) s (omega (arith, after i q r));
-    }
-
-    there : Last (λ (p : ℕ). leb p s) ps 0 (lastUpTo ps s)
-    there = last (λ (p : ℕ). leb p s) 0 ps
-
-    either : Dec (k ≤ lastUpTo ps s) → Dec (lastUpTo ps s ≤ k) → k ≡ lastUpTo ps s
-    either (yes p) (yes q) = omega arith
-    either (no p) _ = absurd (not-later (λ (x : ℕ). leb x s) ps 0 (lastUpTo ps s) k there here (omega arith))
-    either (yes p) (no q) = absurd (not-later (λ (x : ℕ). leb x s) ps 0 k (lastUpTo ps s) here there (omega arith))
+placed-within ps k a b within after before s l m = last-is ps s k within (λ i e. omega (arith, before i e)) (λ i p q. omega (arith, after i p q))
 
 -- one position more, and a number that is no greater
 pub least-more : (ps : List ℕ) (k i n n′ : ℕ) → n′ ≤ n → n′ ≤ getD ps i 0 → ((j : ℕ) → k ≤ j → j < i → j < length ps → n ≤ getD ps j 0)
@@ -104,17 +83,20 @@ module _ (ps vs : List ℕ) (h : Lent ps vs) (i b : ℕ) (w : Channels) (next : 
 
 -- ---- the locations around one whose last position at or below it is at place k, up to b, which no later position is below
 module _ (ps vs : List ℕ) (h : Lent ps vs) (at k b : ℕ) (e : k ≡ lastUpTo ps at) (after : (i : ℕ) → k ≤ i → i < length ps → b ≤ getD ps i 0) where
+  bound : k ≤ length ps
+  bound = omega (arith, e, last (λ (p : ℕ). leb p at) 0 ps .within)
+
   -- before the first stop
   pub before-first : k ≡ 0 → OneColor ps vs 0 b at
   before-first z s l m =
-      sym (color-first ps vs h at (sym z ∙ e)) ∙ color-first ps vs h s (sym z ∙ placed-within ps at k 0 b e after (λ i q. absurd (omega arith)) s l m)
+      sym (color-first ps vs h at (sym z ∙ e)) ∙ color-first ps vs h s (sym z ∙ placed-within ps k 0 b bound after (λ i q. absurd (omega arith)) s l m)
 
   module _ (some : k ≡ 0 → ⊥) where
     from-one : suc (k - 1) ≡ k
     from-one = omega (arith, some)
 
     from-stop : Placed ps k (getD ps (k - 1) 0) b
-    from-stop = placed-within ps at k (getD ps (k - 1) 0) b e after (λ i q. let z : i ≡ k - 1 = omega arith in rw z (omega arith))
+    from-stop = placed-within ps k (getD ps (k - 1) 0) b bound after (λ i q. let z : i ≡ k - 1 = omega arith in rw z (omega arith))
 
     -- from the last one on
     pub after-last : k ≡ length ps → OneColor ps vs (getD ps (k - 1) 0) b at

@@ -2,8 +2,8 @@
 -- Assumes nothing.
 use mathlib.Core.Path.{_≡_, refl, sym, ap, ap₂, _∙_}
 use mathlib.Core.List.{List, [], _∷_}
-use Prim.Native.Nat.{ℕ, suc, _+_, _-_, _*_, _/_, _≤_, _<_, suc-le-suc}
-use native.Mathlib.Nat.{mul-le-mul-right, lt-of-mul-lt-mul-right, div-mul-le-self, lt-div-mul-add, le-trans}
+use Prim.Native.Nat.{ℕ, zero, suc, _+_, _-_, _*_, _/_, _≤_, _<_, suc-le-suc}
+use native.Mathlib.Nat.{mul-le-mul-right, lt-of-mul-lt-mul-right, div-mul-le-self, lt-div-mul-add, le-refl, le-trans, add-zero}
 use native.Mathlib.Decide.{decLe}
 use native.Mathlib.Numerals.{add-one}
 use native.Mathlib.Omega.{arith}
@@ -12,20 +12,44 @@ use Rattle.numbers.specs.Held.{offset}
 use Rattle.numbers.proofs.Integers.{same-leb}
 use Rattle.color.specs.Stop.{placed, lastPlace}
 use Rattle.color.specs.Lent.{Lent, lastUpTo}
+use Rattle.color.proofs.Place.{last-is}
 use Rattle.color.proofs.Lent.{color-first, color-last, between, color-between}
 use Rattle.walk.specs.Channels.{mixOf}
-use Rattle.table.specs.Table.{packed, entryAt, walkedAt, Spans, Clear, Run}
+use Rattle.table.specs.Table.{packed, entryAt, walkedAt, Spans, Clear, Rising, Splits, Ends, Run}
 use Rattle.table.proofs.Packing.{entry-is}
 
--- one position more, and an end that is no further
-pub clear-more : (ps : List ℕ) (n a b b′ : ℕ) → b′ ≤ b → (a < getD ps n 0 → b′ ≤ getD ps n 0) → Clear n ps a b → Clear (n + 1) ps a b′
-clear-more ps n a b b′ h e c i l m = either (decLe n i)
+-- ---- positions that rise
+-- what holds of the first i numbers, and of i
+pub below-more : (P : ℕ → Type 0) (i : ℕ) → ((m : ℕ) → m < i → P m) → P i → (m : ℕ) → m < i + 1 → P m
+below-more P i h e m l = either (decLe i m)
   where
-    either : Dec (n ≤ i) → b′ ≤ getD ps i 0
+    either : Dec (i ≤ m) → P m
     either (yes p) =
-        let q : i ≡ n = omega arith in
-        rw q (e (rw q at m))
-    either (no p) = omega (arith, c i (omega arith) m)
+        let q : m ≡ i = omega arith in
+        rw q e
+    either (no p) = h m (omega arith)
+
+rising-le : (ps : List ℕ) → Rising ps → (i n : ℕ) → i + n < length ps → getD ps i 0 ≤ getD ps (i + n) 0
+rising-le ps r i zero h = rw add-zero (le-refl (getD ps i 0))
+rising-le ps r i (suc n) h =
+    let e : i + suc n ≡ i + n + 1 = omega arith in
+    rw e (le-trans (rising-le ps r i n (omega arith)) (r (i + n) (omega arith)))
+
+module _ (ps : List ℕ) (at k : ℕ) (r : Rising ps) (s : Splits ps at k) where
+  later : (i : ℕ) → k ≤ i → i < length ps → getD ps k 0 ≤ getD ps i 0
+  later i l h =
+      let e : k + (i - k) ≡ i = omega arith in
+      rw e at (rising-le ps r k (i - k) (omega arith))
+
+  pub splits-last : k ≡ lastUpTo ps at
+  splits-last = last-is ps at k (s .within) (λ i e. s .below i (omega arith)) (λ i l h. omega (arith, later i l h, s .above (omega arith)))
+
+  pub splits-clear : (limit b : ℕ) → Ends ps k limit b → Clear (length ps) ps at b
+  splits-clear limit b e i h l = either (decLe k i)
+    where
+      either : Dec (k ≤ i) → b ≤ getD ps i 0
+      either (yes m) = omega (arith, later i m h, e .before (omega arith))
+      either (no m) = absurd (omega (arith, s .below i (omega arith)))
 
 -- the entries from k up to the first at or above r
 pub run-is : (ps : List ℕ) (base s k n r b : ℕ) → 0 < s → n < 262144 → base + n * s ≤ offset → offset + base + k * s < r → r ≤ offset + base + n * s

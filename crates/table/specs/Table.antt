@@ -49,6 +49,22 @@ pub record Spans (g s x a b : ℕ) : Type 0 where
 abbrev pub Clear : ℕ → List ℕ → ℕ → ℕ → Type 0
 Clear n ps a b = (i : ℕ) → i < n → a < getD ps i 0 → b ≤ getD ps i 0
 
+-- no position is below the one before it
+abbrev pub Rising : List ℕ → Type 0
+Rising ps = (i : ℕ) → i + 1 < length ps → getD ps i 0 ≤ getD ps (i + 1) 0
+
+-- the positions before place k are at or below `at`, and the one there, if any, is above it
+pub record Splits (ps : List ℕ) (at k : ℕ) : Type 0 where
+  pub within : k ≤ length ps
+  pub below : (i : ℕ) → i < k → getD ps i 0 ≤ at
+  pub above : k < length ps → at < getD ps k 0
+
+-- b is the position at place k, or `limit` where that is less or there is none
+pub record Ends (ps : List ℕ) (k limit b : ℕ) : Type 0 where
+  pub within : b ≤ limit
+  pub before : k < length ps → b ≤ getD ps k 0
+  pub past : (at : ℕ) → at < limit → (k < length ps → at < getD ps k 0) → at < b
+
 -- entries a up to b of n, at locations that no position lies between
 pub record Run (ps : List ℕ) (base s a b n : ℕ) : Type 0 where
   pub some : a < b

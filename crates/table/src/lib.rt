@@ -3,17 +3,18 @@
 use color::Rgba;
 use walk::Channels;
 ghost use mathlib.Core.Path.{_≡_};
+ghost use mathlib.Core.Bool.{true};
 ghost use mathlib.Core.List.{List};
-ghost use Prim.Native.Nat.{ℕ, _+_, _-_, _*_, _≤_, _<_};
+ghost use Prim.Native.Nat.{ℕ, _+_, _-_, _*_, _/_, _≤_, _<_};
 ghost use lib.IntN.{pos};
-ghost use lib.ListN.{length};
+ghost use lib.ListN.{length, getD};
 ghost use Rattle.color.specs.Stop.{Channel};
 ghost use Rattle.color.specs.Byte.{bytes, colorAt};
 ghost use Rattle.color.specs.Lent.{Lent, Small, stopsOf, lastUpTo};
 ghost use Rattle.picture.specs.Picture.{patched};
 ghost use Rattle.walk.specs.Walk.{Gap, Fits};
 ghost use Rattle.walk.specs.Channels.{walkOf};
-ghost use Rattle.table.specs.Table.{packed, entryOf, entryAt, Spaced, Table, walkedAt, Reached, Spans, Clear, Stored, Run};
+ghost use Rattle.table.specs.Table.{packed, entryOf, entryAt, Spaced, Table, walkedAt, Reached, Spans, Stored, Rising, Splits, Ends, Run};
 
 // ---- packed colors
 
@@ -142,29 +143,53 @@ fn fill_each(
 
 // ---- runs: locations that no position lies between
 
-// p, where it is above `at` and below `end`; else `end`.
-fn nearer(p: u32, at: u32, end: u32) -> u32
-    requires { ⌜ at < end ⌝ }
-    ensures { λ r. ⌜ (at < r) × (r ≤ end) × (at < p → r ≤ p) ⌝ }
+// Whether no position is below the one before it.
+fn is_rising(positions: &[u32]) -> bool
+    ensures { λ r. ⌜ (r ≡ true → Rising (now (positions .entry))) ⌝ }
 {
-    if p <= at {
-        return end;
-    }
-    if p < end { p } else { end }
-}
-
-// The least of `limit` and the positions above `at`.
-fn run_end(positions: &[u32], at: u32, limit: u32) -> u32
-    requires { ⌜ at < limit ⌝ }
-    ensures { λ r. ⌜ (at < r) × (r ≤ limit) × Clear (length (now (positions .entry))) (now (positions .entry)) at r ⌝ }
-{
-    let mut end = limit;
     let mut i = 0;
-    while i < positions.len() {
-        end = nearer(positions[i], at, end);
+    while i + 1 < positions.len() {
+        if positions[i + 1] < positions[i] {
+            return false;
+        }
         i += 1;
     }
-    end
+    true
+}
+
+// The first place from `from` on whose position is above `at`.
+fn place_above(positions: &[u32], from: usize, at: u32) -> usize
+    requires { ⌜ (from ≤ length (now positions)) × ((i : ℕ) → i < from → getD (now positions) i 0 ≤ at) ⌝ }
+    ensures { λ r. ⌜ Splits (now (positions .entry)) at r ⌝ }
+{
+    let mut i = from;
+    while i < positions.len() {
+        if at < positions[i] {
+            return i;
+        }
+        i += 1;
+    }
+    i
+}
+
+// The position at a place, or `limit` where that is less or there is none.
+fn run_end(positions: &[u32], place: usize, limit: u32) -> u32
+    ensures { λ r. ⌜ Ends (now (positions .entry)) place limit r ⌝ }
+{
+    if place < positions.len() {
+        if positions[place] < limit {
+            return positions[place];
+        }
+    }
+    limit
+}
+
+// n / stride, the sooner for the stride of rows and columns.
+fn entries_in(n: u32, stride: u32) -> u32
+    requires { ⌜ 0 < stride ⌝ }
+    ensures { λ r. ⌜ r ≡ n / stride ⌝ }
+{
+    if stride == 64 { n / 64 } else { n / stride }
 }
 
 // Stores the colors of a run between stop i and the next.
@@ -196,7 +221,7 @@ fn fill_between(
     fill_walked(t, at, end, values, i, g, stride, x);
 }
 
-// Stores the colors of a run.
+// Stores the colors of a run, where `place` is the place of the last position at or below its first location.
 fn fill_run(
     t: &mut [u32],
     at: usize,
@@ -205,12 +230,12 @@ fn fill_run(
     values: &[u32],
     base: u32,
     stride: u32,
+    place: usize,
 )
-    requires { ⌜ Lent (now positions) (now values) × Run (now positions) base stride at end (length (now t)) ⌝ }
+    requires { ⌜ Lent (now positions) (now values) × Run (now positions) base stride at end (length (now t)) × (place ≡ lastUpTo (now positions) (33554432 + (base + at * stride))) ⌝ }
     ensures { λ _. ⌜ Stored (entryAt (now (positions .entry)) (now (values .entry)) base stride) at end (now (t .entry)) (now (t .exit)) ⌝ }
 {
     let s = base + (at as u32) * stride;
-    let place = color::last_up_to(positions, 33554432 + s);
     if place == 0 {
         fill_flat(t, at, end, color_of(positions, values, s));
         return;
@@ -224,20 +249,35 @@ fn fill_run(
 
 // ---- the table
 
-// Fills the table with the colors of the locations from `base` on, `stride` units apart.
-pub fn fill_spaced(t: &mut [u32], positions: &[u32], values: &[u32], base: u32, stride: u32)
-    requires { ⌜ Lent (now positions) (now values) × (0 < stride) × (base + length (now t) * stride ≤ 33554432) × (length (now t) < 262144) ⌝ }
+// Fills the table run by run, with the colors of the locations from `base` on, `stride` units apart.
+fn fill_runs(t: &mut [u32], positions: &[u32], values: &[u32], base: u32, stride: u32)
+    requires { ⌜ Lent (now positions) (now values) × Rising (now positions) × (0 < stride) × (base + length (now t) * stride ≤ 33554432) × (length (now t) < 262144) ⌝ }
     ensures { λ _. ⌜ Spaced (now (positions .entry)) (now (values .entry)) base stride (now (t .exit)) × (length (now (t .exit)) ≡ length (now (t .entry))) ⌝ }
 {
     let n = t.len();
     let first = 33554432 + base;
     let limit = first + (n as u32) * stride;
     let mut k = 0;
+    let mut place = 0;
     while k < n {
-        let r = run_end(positions, first + (k as u32) * stride, limit);
-        let end = ((r - first + (stride - 1)) / stride) as usize;
-        fill_run(t, k, end, positions, values, base, stride);
+        place = place_above(positions, place, first + (k as u32) * stride);
+        let r = run_end(positions, place, limit);
+        let end = entries_in(r - first + (stride - 1), stride) as usize;
+        fill_run(t, k, end, positions, values, base, stride, place);
         k = end;
+    }
+}
+
+// Fills the table with the colors of the locations from `base` on, `stride` units apart: one by one where the positions do not rise, as placed ones do.
+pub fn fill_spaced(t: &mut [u32], positions: &[u32], values: &[u32], base: u32, stride: u32)
+    requires { ⌜ Lent (now positions) (now values) × (0 < stride) × (base + length (now t) * stride ≤ 33554432) × (length (now t) < 262144) ⌝ }
+    ensures { λ _. ⌜ Spaced (now (positions .entry)) (now (values .entry)) base stride (now (t .exit)) × (length (now (t .exit)) ≡ length (now (t .entry))) ⌝ }
+{
+    if is_rising(positions) {
+        fill_runs(t, positions, values, base, stride);
+    } else {
+        let n = t.len();
+        fill_each(t, 0, n, positions, values, base, stride);
     }
 }
 

@@ -26,14 +26,8 @@ mul-s c = omega (arith, low (c .before .before .before))
 add-s : tie.Need-add-s
 add-s c = omega (arith, low (c .before .before .before))
 
-add-last-up-to : tie.Need-add-last-up-to
-add-last-up-to c = omega (arith, low (c .before .before .before))
-
-last-up-to-requires : tie.Need-last-up-to-requires
-last-up-to-requires c κs = search needs
-
 color-of-requires : tie.Need-color-of-requires
-color-of-requires c κs = (c .before .before .before .before .before .before .pre .0, omega (arith, low (c .before .before .before .before .before .before)))
+color-of-requires c κs = (c .before .before .before .before .before .pre .0, omega (arith, low (c .before .before .before .before .before)))
 
 fill-flat-requires : tie.Need-fill-flat-requires
 fill-flat-requires c κs = search needs
@@ -43,16 +37,16 @@ same-length c = search needs
 
 returns : tie.Need-returns
 returns c =
-    let s = c .before .before .before .before .before .before .before .before .before .before in
+    let s = c .before .before .before .before .before .before .before .before .before in
     let a = s .args in
     stored-same _ _ (a .at) (a .end) (now (a .t)) _
     (λ k l m. c .before .before .before .color-of .ensures
     ∙ flat-first (now (a .positions)) (now (a .values)) (s .pre .0) (a .base) (a .stride) (a .at) (a .end) (length (now (a .t))) (s .pre .1)
-    (sym (c .before .before .before .before .before .if1 .taken) ∙ c .before .before .before .before .before .before .last-up-to .ensures) k l m)
+    (sym (c .before .before .before .before .before .if1 .taken) ∙ s .pre .2) k l m)
     (c .before .before .fill-flat .ensures)
 
 color-of-requires-2 : tie.Need-color-of-requires-2
-color-of-requires-2 c κs = (c .before .before .before .before .before .before .before .pre .0, omega (arith, low (c .before .before .before .before .before .before .before)))
+color-of-requires-2 c κs = (c .before .before .before .before .before .before .pre .0, omega (arith, low (c .before .before .before .before .before .before)))
 
 fill-flat-requires-2 : tie.Need-fill-flat-requires-2
 fill-flat-requires-2 c κs = search needs
@@ -62,14 +56,14 @@ same-length-2 c = search needs
 
 returns-2 : tie.Need-returns-2
 returns-2 c =
-    let s = c .before .before .before .before .before .before .before .before .before .before .before in
+    let s = c .before .before .before .before .before .before .before .before .before .before in
     let a = s .args in
-    let place = c .before .before .before .before .before .before .before .last-up-to .result in
+    let place = a .place in
     let e : suc (place - 1) ≡ place = omega (arith, c .before .before .before .before .before .before .if1 .left) in
     stored-same _ _ (a .at) (a .end) (now (a .t)) _
     (λ k l m. c .before .before .before .color-of2 .ensures
     ∙ flat-last (now (a .positions)) (now (a .values)) (s .pre .0) (a .base) (a .stride) (a .at) (a .end) (length (now (a .t))) (s .pre .1) (place - 1)
-    (e ∙ c .before .before .before .before .before .before .before .last-up-to .ensures) (e ∙ c .before .before .before .before .before .if2 .taken) k l m)
+    (e ∙ s .pre .2) (e ∙ c .before .before .before .before .before .if2 .taken) k l m)
     (c .before .before .fill-flat2 .ensures)
 
 sub-fill-between : tie.Need-sub-fill-between
@@ -77,11 +71,11 @@ sub-fill-between c = search needs
 
 fill-between-requires : tie.Need-fill-between-requires
 fill-between-requires c κs =
-    let s = c .before .before .before .before .before .before .before in
-    let place = c .before .before .before .last-up-to .result in
+    let s = c .before .before .before .before .before .before in
+    let place = s .args .place in
     let e : place - 1 + 1 ≡ place = omega (arith, c .before .before .if1 .left) in
-    let f = c .before .before .before .last-up-to .ensures in
-    (s .pre, (e ∙ f, omega (arith, c .before .if2 .left, f, last (λ (p : ℕ). leb p (33554432 + (s .args .base + s .args .at * s .args .stride))) 0 (now (s .args .positions)) .within)))
+    let f = s .pre .2 in
+    ((s .pre .0, s .pre .1), (e ∙ f, omega (arith, c .before .if2 .left, f, last (λ (p : ℕ). leb p (33554432 + (s .args .base + s .args .at * s .args .stride))) 0 (now (s .args .positions)) .within)))
 
 same-length-3 : tie.Need-same-length-3
 same-length-3 c = search needs
@@ -96,8 +90,6 @@ fill-run-spec =
     cast-s
     mul-s
     add-s
-    add-last-up-to
-    last-up-to-requires
     color-of-requires
     fill-flat-requires
     same-length
