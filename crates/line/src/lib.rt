@@ -177,8 +177,9 @@ fn vector_length(v: HeldVector, w: usize, h: usize) -> u64
     requires { ⌜ Box w h × Bounded v ⌝ }
     ensures { λ r. ⌜ r ≡ lineLength w h (vectorIn v) ⌝ }
 {
-    let s = weighted(w as u64, h as u64, v);
-    on_line(64 * s, v, 0)
+    let t = 64 * weighted(w as u64, h as u64, v);
+    // this guess is right where the line is level or upright
+    on_line(t, v, (t / ((v.x + v.y) as u64)) as u32)
 }
 
 // Twice the distance of pixel i's middle from the side of the box that the direction starts at.

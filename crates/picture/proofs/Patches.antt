@@ -60,7 +60,7 @@ module _ {A : Type 0} where
       let u : List A = take at d ++ p in
       let l : length u ≡ o = rw (length-append, length-take-le at d h) (sym f) in
       let g : take at d ++ (p ++ m ++ q) ++ r ≡ u ++ (m ++ (q ++ r)) = simp append-assoc in
-      let n : length (p ++ m ++ q) ≡ length (p ++ t ++ q) = rw (length-append, length-append, length-append, length-append, e) in
+      let n : length (p ++ m ++ q) ≡ length (p ++ t ++ q) = simp (length-append, e) in
       let v : drop (o + length t) (u ++ (m ++ (q ++ r))) ≡ q ++ r = rw (← l, drop-append-add, drop-at m (q ++ r) (length t) e) in
       ap (λ (x : List A). take o x ++ t ++ drop (o + length t) x) g
       ∙ ap₂ (λ (x y : List A). x ++ t ++ y) (take-at u (m ++ (q ++ r)) o l) v

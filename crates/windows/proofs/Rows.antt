@@ -12,7 +12,7 @@ use Rattle.line.specs.Held.{oddOf}
 use Rattle.line.specs.declared.HeldVector.{HeldVector}
 use Rattle.line.specs.declared.Line.the-variants as L
 use Rattle.picture.specs.Picture.{row, part, strip, patched}
-use Rattle.picture.proofs.Rows.{joined-none, joined-more, joined-same, row-length}
+use Rattle.picture.proofs.Rows.{joined-none, joined-more, joined-same, row-part, parts-alike, row-length}
 use Rattle.picture.proofs.Patches.{patch-step, patch-over}
 use Rattle.rows.specs.Pixel.{lentPixel}
 use Rattle.rows.proofs.Pixels.{four}
@@ -105,8 +105,7 @@ module _ (ps vs : List ℕ) (v : HeldVector) (c w h a b : ℕ) (e : v .x * c ≡
         (rw (e₁, e₂, e₃, e₄) at (far w h (v .x) (v .y) c a (j - a) (b - 1 - j) i e l (omega arith) (v .left) (v .up)))
 
     window : part wide start w (rowOf (v .up) a b) ≡ row plain w j
-    unfolding part row
-    window = sym (joined-same (λ (i : ℕ). plain i j) (λ (i : ℕ). wide i (rowOf (v .up) a b)) 0 start w (λ i l. rw zero-add (pixel i l)))
+    window = sym (row-part plain w j ∙ parts-alike plain wide 0 start w j (rowOf (v .up) a b) (λ i l. rw zero-add (pixel i l)))
 
   -- the windows of the wider box's row are the rows
   windows-strip : (d : List ℕ) → Stands (row wide (w + c * (b - a - 1)) (rowOf (v .up) a b)) 0 d
