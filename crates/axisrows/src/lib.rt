@@ -96,7 +96,7 @@ fn copy_blocks(buf: &mut [u8], block: &mut [u8], k: usize, bytes: &[u8], n: usiz
 }
 
 // Draws n rows of a small box with the entries' bytes, by blocks. Here and below what is copied from is an array of the function's own: a compiler
-// then knows that the buffer is apart from it, and copies each block or row in one call.
+// then knows that the buffer is apart from it, and leaves copying to the C library.
 fn rows_small(t: &[u32], back: bool, w: usize, n: usize, buf: &mut [u8])
     requires { ⌜ (w ≤ length (now t)) × (0 < w) × (w ≤ 256) × (0 < n) × (4 * w * n ≤ length (now buf)) ⌝ }
     ensures { λ _. ⌜ now (buf .exit) ≡ patched (now (buf .entry)) 0 (copies n (row (byColumn (now (t .entry)) back w) w 0)) ⌝ }

@@ -1,5 +1,4 @@
-// Strips along a straight line in tiles of 64 columns and 16 rows: the entries of the table that a tile needs stay in the first cache, and its rows
-// are few enough that the memory sees each of them as one stream.
+// Strips along a straight line in tiles of 64 columns and 16 rows: the entries of the table that a tile needs are few enough for the first cache.
 use fixed::Steps;
 use line::HeldVector;
 use line::Line;
