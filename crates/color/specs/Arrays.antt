@@ -4,15 +4,18 @@ use mathlib.Core.Path.{_≡_}
 use mathlib.Core.Bool.{true}
 use mathlib.Core.List.{List, [], _∷_, map}
 use Prim.Native.Nat.{ℕ, _*_, _≤_}
-use lib.ListN.{length, take}
+use lib.ListN.{length, take, getD}
 use Rattle.numbers.specs.Held.{held}
 use Rattle.gradient.specs.declared.Color.{Color}
-use Rattle.stops.specs.Check.{placedOf, placesIn}
+use Rattle.gradient.specs.declared.Gradient.{Gradient}
+use Rattle.gradient.specs.Blank.{blankColor}
+use Rattle.gradient.specs.Bytes.{ColorBytes}
+use Rattle.gradient.specs.Check.{stopsOf}
+use Rattle.stops.specs.Check.{placesIn}
 use Rattle.stops.specs.declared.PlacedStop.{PlacedStop}
 use Rattle.stops.specs.declared.PlacedStops.{PlacedStops}
 use Rattle.color.specs.Stop.{red, green, blue, alpha, premultiplied, stopOf}
-use Rattle.stops.specs.Bytes.{AllBytes}
-use Rattle.color.specs.Lent.{Small, Lent, stopsOf}
+use Rattle.color.specs.Lent as Lent
 
 -- at most 16 stops, with positions that can be held: from −2^25 to 2^25 units
 pub record Holdable (p : PlacedStops) : Type 0 where
@@ -23,22 +26,29 @@ pub record Holdable (p : PlacedStops) : Type 0 where
 abbrev pub positionsOf : List PlacedStop → List ℕ
 positionsOf l = map (λ s. held (s .position)) l
 
--- the premultiplied channels, four numbers to a stop
+-- the colors of placed stops, and of the stops of a gradient
+abbrev pub colorsOf : List PlacedStop → List Color
+colorsOf l = map (λ s. s .color) l
+
+abbrev pub gradientColors : Gradient → List Color
+gradientColors g = map (λ s. s .color) (stopsOf g)
+
+-- the premultiplied channels of colors, four numbers to a color
 abbrev pub fourOf : Color → List ℕ → List ℕ
 fourOf c rest = premultiplied c red ∷ premultiplied c green ∷ premultiplied c blue ∷ premultiplied c alpha ∷ rest
 
-unfoldable pub valuesOf : List PlacedStop → List ℕ
+unfoldable pub valuesOf : List Color → List ℕ
 valuesOf [] = []
-valuesOf (s ∷ l) = fourOf (s .color) (valuesOf l)
+valuesOf (c ∷ l) = fourOf c (valuesOf l)
 
--- what `values_of` makes of placed stops, and what their type says of them: they are as many as the count says, and their colors are bytes
-pub record Values (p : PlacedStops) (vs : List ℕ) : Type 0 where
-  pub values : take (4 * p .count) vs ≡ valuesOf (placedOf p)
-  pub small : Small vs
-  pub many : length (placedOf p) ≡ p .count
-  pub bytes : AllBytes (placedOf p)
+-- what an array has of n colors, and what the type of these says: they are n, and made of bytes
+pub record Values (n : ℕ) (colors : List Color) (vs : List ℕ) : Type 0 where
+  pub values : take (4 * n) vs ≡ valuesOf colors
+  pub small : Lent.Small vs
+  pub many : length colors ≡ n
+  pub bytes : (i : ℕ) → ColorBytes (getD colors i blankColor)
 
--- the first places of two arrays are lent stops, and these are the stops of p
-pub record Holds (p : PlacedStops) (us vs : List ℕ) : Type 0 where
-  pub lent : Lent (take (p .count) us) (take (4 * p .count) vs)
-  pub same : stopsOf (take (p .count) us) (take (4 * p .count) vs) ≡ map stopOf (placedOf p)
+-- the first places of two arrays are lent stops, and these are the n stops of l
+pub record Holds (n : ℕ) (l : List PlacedStop) (us vs : List ℕ) : Type 0 where
+  pub lent : Lent.Lent (take n us) (take (4 * n) vs)
+  pub same : Lent.stopsOf (take n us) (take (4 * n) vs) ≡ map stopOf l

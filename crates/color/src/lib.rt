@@ -1,6 +1,7 @@
 // The color of a location on the gradient line, from placed stops that are lent as two slices of numbers, and these numbers of placed stops.
 // A position, and a location, is held as the number 2^25 above it. A stop has four values, its premultiplied channels.
 use gradient::Color;
+use gradient::Gradient;
 use numbers::hold;
 use stops::PlacedStops;
 ghost use mathlib.Core.Path.{_≡_};
@@ -13,7 +14,7 @@ ghost use Rattle.stops.specs.Check.{placedOf};
 ghost use Rattle.color.specs.Stop.{Channel};
 ghost use Rattle.color.specs.Byte.{rgba, colorAt};
 ghost use Rattle.color.specs.Lent.{Small, Lent, Between, stopsOf, valuesAt, lastUpTo, mix, Inverse};
-ghost use Rattle.color.specs.Arrays.{Holdable, positionsOf, fourOf, Values};
+ghost use Rattle.color.specs.Arrays.{Holdable, positionsOf, colorsOf, gradientColors, fourOf, Values};
 
 // A pixel's four bytes, premultiplied.
 pub struct Rgba {
@@ -189,13 +190,29 @@ fn store(values: &mut [u32], i: usize, c: Color)
 // The premultiplied channels of the stops, four numbers to a stop, in the first places.
 pub fn values_of(p: PlacedStops) -> [u32; 64]
     requires { ⌜ p .count ≤ 16 ⌝ }
-    ensures { λ r. ⌜ Values p r ⌝ }
+    ensures { λ r. ⌜ Values (p .count) (colorsOf (placedOf p)) r ⌝ }
 {
     let n = p.count as usize;
     let mut values = [0u32; 64];
     let mut i: usize = 0;
     while i < n {
         let s = p.stops[i];
+        store(&mut values, i, s.color);
+        i += 1;
+    }
+    values
+}
+
+// The same of the stops of a gradient.
+pub fn gradient_values(g: Gradient) -> [u32; 64]
+    requires { ⌜ g .count ≤ 16 ⌝ }
+    ensures { λ r. ⌜ Values (g .count) (gradientColors g) r ⌝ }
+{
+    let n = g.count as usize;
+    let mut values = [0u32; 64];
+    let mut i: usize = 0;
+    while i < n {
+        let s = g.stops[i];
         store(&mut values, i, s.color);
         i += 1;
     }

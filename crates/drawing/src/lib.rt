@@ -14,22 +14,40 @@ ghost use Rattle.stops.specs.Check.{placedOf, checkPlacedOf};
 ghost use Rattle.placing.specs.Placed.{placedIn};
 ghost use Rattle.color.specs.Stop.{stopOf};
 ghost use Rattle.color.specs.Arrays.{Holdable};
-ghost use Rattle.rows.specs.Pixel.{Placed, Strip};
+ghost use Rattle.picture.specs.Picture.{strip, padded};
+ghost use Rattle.rows.specs.Pixel.{Placed, Drawable, Strip, lentPixel};
 ghost use Rattle.drawing.specs.Replies.{roomReply, lowest, gradientReply, stopsReply};
 ghost use Rattle.drawing.specs.Drawn.{Drawn};
 ghost use Rattle.drawing.specs.Inner.{Painted};
 
-// Draws rows a up to b of the picture, then zeros.
-fn paint(l: Line, p: PlacedStops, w: usize, h: usize, a: usize, b: usize, buf: &mut [u8])
-    requires { ⌜ Placed l w h × Holdable p × (0 < p .count) × Strip w h a b (length (now buf)) ⌝ }
-    ensures { λ _. ⌜ Painted (ruleIn l w h) (placedOf p) w a b (now (buf .entry)) (now (buf .exit)) ⌝ }
+// Draws rows a up to b of a picture whose stops are lent, then zeros.
+fn paint(
+    positions: &[u32],
+    values: &[u32],
+    l: Line,
+    w: usize,
+    h: usize,
+    a: usize,
+    b: usize,
+    buf: &mut [u8],
+)
+    requires { ⌜ Drawable (now positions) (now values) l w h × Strip w h a b (length (now buf)) ⌝ }
+    ensures { λ _. ⌜ now (buf .exit) ≡ padded (length (now (buf .entry))) (strip (lentPixel (now (positions .entry)) (now (values .entry)) l w h) w a b) ⌝ }
+{
+    strips::draw_strip(positions, values, l, w, h, a, b, buf);
+    picture::clear_from(buf, 4 * w * (b - a));
+}
+
+// Draws the picture of placed stops, then zeros.
+fn draw_placed(l: Line, p: PlacedStops, w: usize, h: usize, buf: &mut [u8])
+    requires { ⌜ Placed l w h × Holdable p × (0 < p .count) × Strip w h 0 h (length (now buf)) ⌝ }
+    ensures { λ _. ⌜ Painted (ruleIn l w h) (placedOf p) w 0 h (now (buf .entry)) (now (buf .exit)) ⌝ }
 {
     let positions = color::positions_of(p);
     let values = color::values_of(p);
     let n = p.count as usize;
     let m = 4 * n;
-    strips::draw_strip(&positions[..n], &values[..m], l, w, h, a, b, buf);
-    picture::clear_from(buf, 4 * w * (b - a));
+    paint(&positions[..n], &values[..m], l, w, h, 0, h, buf);
 }
 
 // The reply to a box and to a buffer of n bytes.
@@ -62,8 +80,11 @@ pub fn draw_strip(g: Gradient, w: usize, h: usize, a: usize, b: usize, buf: &mut
 {
     let shape = g.shape;
     let l = line::line_of(shape, w, h);
-    let p = placing::place_in_box(g, w, h);
-    paint(l, p, w, h, a, b, buf);
+    let positions = placing::positions_in_box(g, w, h);
+    let values = color::gradient_values(g);
+    let n = g.count as usize;
+    let m = 4 * n;
+    paint(&positions[..n], &values[..m], l, w, h, a, b, buf);
 }
 
 fn gradient_reply(g: Gradient, w: usize, h: usize, n: usize) -> u32
@@ -109,7 +130,7 @@ pub fn draw_stops(g: Gradient, p: PlacedStops, w: usize, h: usize, buf: &mut [u8
     if r == 0 {
         let shape = g.shape;
         let l = line::line_of(shape, w, h);
-        paint(l, p, w, h, 0, h, buf);
+        draw_placed(l, p, w, h, buf);
         return 0;
     }
     picture::clear(buf);

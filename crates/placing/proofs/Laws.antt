@@ -10,6 +10,7 @@ use lib.IntN.{ℤ, pos, natAbs}
 use lib.ListN.{length, take, getD, replicate, length-map, length-take, List·getD-map, List·getD-append}
 use lib.Seq.{take-append-seam, drop-append-seam}
 use lib.Signed.{leZ}
+use Rattle.numbers.specs.Held.{unheld}
 use Rattle.gradient.specs.declared.Color.{Color}
 use Rattle.gradient.specs.declared.Position.{Position}
 use Rattle.gradient.specs.declared.Position.the-variants as P
@@ -30,9 +31,9 @@ use Rattle.stops.specs.Check.{placedOf, risingFrom, rising, blankPastPlaced, ch
 use Rattle.stops.proofs.Laws.{accepting-placed}
 use Rattle.placing.specs.Spot.{Spot, unplaced, at, spotOf}
 use Rattle.placing.specs.Fixup.{firstAt, lastAt, endsPlaced, raisedTo, raisedFrom, raised, spacedFrom, fixup}
-use Rattle.placing.specs.Placed.{spotsOf, atPositions, placedStops, placedIn, listed}
+use Rattle.placing.specs.Placed.{spotsOf, atPositions, placedStops, placedIn, positionsIn, listed}
 use Rattle.placing.proofs.Sorting.{NotBelow, Rising, fixup-rising}
-use Rattle.placing.proofs.Within.{spotWithin, within}
+use Rattle.placing.proofs.Within.{Within, spotWithin, within, held-small}
 use Rattle.placing.proofs.Whole.{length-at}
 
 -- ---- as many stops, with the same colors in the same order
@@ -144,24 +145,33 @@ spots-within line (suc n) [] k f i = tt
 spots-within line (suc n) (s ∷ l) k f zero = spot-within line (s .position) k (f 0 (omega arith))
 spots-within line (suc n) (s ∷ l) k f (suc i) = spots-within line n l k (λ j h. f (suc j) (suc-le-suc h)) i
 
-module _ (line : ℕ) (g : Gradient) (k : line ≤ longest) (a : Accepted g) where
-  pub positions-within : (i : ℕ) → natAbs (getD (fixup line (spotsOf line (stopsOf g))) i (pos 0)) ≤ furthest
-  positions-within = within furthest line (spotsOf line (stopsOf g)) (omega arith) (spots-within line (g .count) (g .stops) k (a .stops))
-
-  stops-within : (i : ℕ) → natAbs (getD (placedStops line (stopsOf g)) i blankPlaced .position) ≤ furthest
-  stops-within i =
-      rw (← List·getD-map (λ (p : PlacedStop). p .position) (placedStops line (stopsOf g)) i blankPlaced, same-positions line (stopsOf g))
-      (positions-within i)
-
 module _ (g : Gradient) (w h : ℕ) where
+  pub positions-are : positionsIn g w h ≡ fixup (lengthOf (g .shape) w h) (spotsOf (lengthOf (g .shape) w h) (stopsOf g))
+  unfolding placedIn
+  positions-are = same-positions (lengthOf (g .shape) w h) (stopsOf g)
+
+  -- the stops of the gradient, at these positions
+  pub placed-at-positions : atPositions (stopsOf g) (positionsIn g w h) ≡ placedIn g w h
+  unfolding placedIn placedStops
+  placed-at-positions = ap (atPositions (stopsOf g)) positions-are
+
   rising-in : rising (placedIn g w h) ≡ true
   unfolding placedIn
   rising-in = placed-rising (lengthOf (g .shape) w h) (stopsOf g)
 
   module _ (b : Box w h) (a : Accepted g) where
+    pub positions-within : Within furthest (positionsIn g w h)
+    positions-within =
+        let line : ℕ = lengthOf (g .shape) w h in
+        let k : line ≤ longest = bounds .length (g .shape) w h b (a .shape) in
+        rw positions-are (within furthest line (spotsOf line (stopsOf g)) (omega arith) (spots-within line (g .count) (g .stops) k (a .stops)))
+
+    -- held, they are small
+    pub held-within : (us : List ℕ) → map unheld (take (g .count) us) ≡ positionsIn g w h → (i : ℕ) → i < g .count → getD us i 0 ≤ 67108864
+    held-within us e i k = omega (arith, held-small furthest (g .count) us (rw e positions-within) i k)
+
     pub placed-within : (i : ℕ) → natAbs (getD (placedIn g w h) i blankPlaced .position) ≤ furthest
-    unfolding placedIn
-    placed-within = stops-within (lengthOf (g .shape) w h) g (bounds .length (g .shape) w h b (a .shape)) a
+    placed-within i = rw (← List·getD-map (λ (p : PlacedStop). p .position) (placedIn g w h) i blankPlaced) (positions-within i)
 
     -- the array of a gradient has 16 places
     module _ (full : length (g .stops) ≡ 16) where

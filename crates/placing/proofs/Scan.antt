@@ -5,8 +5,8 @@ use mathlib.Core.List.{List, [], _∷_, _++_, map, append-nil, map-append}
 use Prim.Native.Nat.{ℕ, suc, _+_, _≤_, _<_}
 use native.Mathlib.Numerals.{add-one}
 use native.Mathlib.Omega.{arith}
-use lib.ListN.{length, take, drop, getD, set}
-use lib.Seq.{take-suc, drop-cons, take-suc-set, drop-set-lt, append-snoc, take-length, drop-length}
+use lib.ListN.{length, take, drop, getD, set, drop-of-length-le}
+use lib.Seq.{take-suc, drop-cons, take-suc-set, drop-set-lt, append-snoc, take-all}
 
 module _ {ℓ} {A B C : Type ℓ} (f : A → B) (g : A → C) (ps : List A) (i : ℕ) where
   -- entry i is replaced by v; `go` is what the definition makes of the rest before, and `go′` after
@@ -19,10 +19,8 @@ module _ {ℓ} {A B C : Type ℓ} (f : A → B) (g : A → C) (ps : List A) (i :
       (ap (λ (r : List B). map f (take i ps) ++ r) (ap (λ (n : ℕ). f v ∷ go′ (map g (drop n ps))) (sym (add-one i)) ∙ e))
 
   -- at the end all is done
-  pub all-done : (go : List C → List B) → go [] ≡ [] → length ps ≤ i → i ≤ length ps → map f (take i ps) ++ go (map g (drop i ps)) ≡ map f ps
-  all-done go e h h′ =
-      let n : i ≡ length ps = omega arith in
-      rw (n, take-length ps, drop-length ps, e) (append-nil (map f ps))
+  pub all-done : (go : List C → List B) → go [] ≡ [] → length ps ≤ i → map f (take i ps) ++ go (map g (drop i ps)) ≡ map f ps
+  all-done go e h = rw (take-all i ps h, drop-of-length-le ps h, e) (append-nil (map f ps))
 
 -- the entry that a loop looks at
 pub map-at {ℓ} : {A B : Type ℓ} (g : A → B) (ps : List A) (i : ℕ) (d : A) → i < length ps → map g (drop i ps) ≡ g (getD ps i d) ∷ map g (drop (i + 1) ps)

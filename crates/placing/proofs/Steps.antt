@@ -1,21 +1,23 @@
 -- One turn of each step, on spots as the code holds them.
 -- Assumes nothing.
-use mathlib.Core.Path.{_≡_, refl, sym, ap, _∙_, subst}
+use mathlib.Core.Path.{_≡_, refl, sym, ap, ap₂, _∙_, subst}
 use mathlib.Core.Bool.{Bool, true, false}
 use mathlib.Core.List.{List, [], _∷_, map}
 use Prim.Native.Nat.{ℕ, zero, suc, _+_, _≤_, _<_, max}
+use native.Mathlib.Numerals.{add-one}
 use native.Mathlib.Omega.{arith}
 use lib.Dec.{leb}
 use lib.IntN.{ℤ, pos, natAbs}
-use lib.ListN.{length, getD, set, drop, drop-of-length-le}
+use lib.ListN.{length, getD, set, drop, drop-of-length-le, length-drop}
+use lib.Seq.{drop-set-lt}
 use lib.Signed.{leZ}
 use borrow.Author.Tests.{leb-true, leb-false}
 use Rattle.numbers.specs.Held.{offset, unheld}
 use Rattle.numbers.proofs.Integers.{diff-eq, diff-pos, held-order}
 use Rattle.placing.specs.Spot.{Spot, unplaced, at}
 use Rattle.placing.specs.Fixup.{orAt, firstAt, lastAt, endsPlaced, maxℤ, raisedTo, raisedFrom, next, run, between, spacedFrom}
-use Rattle.placing.specs.Held.{spot, raisedHeld, Ready, Follows, Stepped}
-use Rattle.placing.proofs.Scan.{map-at}
+use Rattle.placing.specs.Held.{spot, raisedHeld, Ready, spacedSoFar, Spacing}
+use Rattle.placing.proofs.Scan.{map-at, in-place}
 
 pub spot-at : (u : ℕ) → 0 < u → spot u ≡ at (unheld u)
 spot-at zero h = absurd (omega arith)
@@ -126,40 +128,73 @@ module _ (ps : List ℕ) (i : ℕ) where
   unfolding run
   run-none h = rw (drop-of-length-le ps h)
 
--- one stop spaced: a placed one, or an unplaced one
-module _ (ps : List ℕ) (i a m : ℕ) (h : i < length ps) (r : Ready (unheld a) (map spot (drop i ps))) where
-  pub space-placed : 0 < getD ps i 0 → Stepped (unheld a) m (drop i ps) (drop (i + 1) ps) (getD ps i 0) (getD ps i 0) 1
-  unfolding spacedFrom Ready
-  space-placed e =
-      let p = getD ps i 0 in
-      let d : map spot (drop i ps) ≡ at (unheld p) ∷ map spot (drop (i + 1) ps) = map-at spot ps i 0 h ∙ ap (λ (s : Spot). s ∷ map spot (drop (i + 1) ps)) (spot-at p e) in
+-- at an unplaced stop of a run
+module _ {zs : List ℤ} {a b m k i : ℕ} {ps : List ℕ} (s : Spacing zs a b m k i ps) (h : m < k) where
+  pub run-inside : i < length ps
+  run-inside = omega (arith, s .stops, run-bound (drop i ps), length-drop i ps)
+
+  here-unplaced : getD ps i 0 ≡ 0
+  here-unplaced = go (getD ps i 0) refl
+    where
+      go : (u : ℕ) → getD ps i 0 ≡ u → u ≡ 0
+      go zero e = refl
+      go (suc u) e = absurd (omega (arith, s .stops, run-here ps i run-inside (omega arith)))
+
+  abbrev rest : List Spot
+  rest = map spot (drop (i + 1) ps)
+
+  here : map spot (drop i ps) ≡ unplaced ∷ rest
+  here = map-at spot ps i 0 run-inside ∙ ap (λ (n : ℕ). spot n ∷ rest) here-unplaced
+
+  next-rest : unheld b ≡ next rest
+  next-rest = s .position ∙ sym (next-on ps i run-inside here-unplaced)
+
+  run-rest : m + 1 + run rest ≡ k
+  run-rest = omega (arith, s .stops, run-on ps i run-inside here-unplaced)
+
+  parts : (leZ (unheld a) (next rest) ≡ true) × Ready (unheld a) rest
+  unfolding Ready
+  parts = subst (Ready (unheld a)) here (s .ready)
+
+  pub not-above : a ≤ b
+  not-above = leb-true a b (sym (held-order a b offset) ∙ ap (leZ (unheld a)) next-rest ∙ parts .0)
+
+  pub run-step : (u : ℕ) → unheld u ≡ between (unheld a) (unheld b) m k → Spacing zs a b (m + 1) k (i + 1) (set ps i u)
+  unfolding spacedFrom
+  run-step u e =
+      let same : drop (i + 1) (set ps i u) ≡ drop (i + 1) ps = drop-set-lt (i + 1) ps i u (omega arith) in
+      let here-is : unheld u ∷ spacedFrom (unheld a) (m + 1) rest ≡ spacedFrom (unheld a) m (map spot (drop i ps)) =
+      ap (λ (z : ℤ). z ∷ spacedFrom (unheld a) (m + 1) rest) (e ∙ ap₂ (λ (z : ℤ) (n : ℕ). between (unheld a) z m n) next-rest (sym run-rest))
+      ∙ sym (ap (spacedFrom (unheld a) m) here) in
       record {
-        whole = sym (ap (spacedFrom (unheld a) m) d);
-        ready = subst (Ready (unheld a)) d r;
-        counted = omega arith;
+        whole = in-place unheld spot ps i u (spacedFrom (unheld a) m) (spacedFrom (unheld a) (m + 1)) run-inside here-is ∙ s .whole;
+        ready = rw same (parts .1);
+        position = rw same next-rest;
+        stops = rw same run-rest;
       }
 
-  module _ (e : getD ps i 0 ≡ 0) where
-    here : map spot (drop i ps) ≡ unplaced ∷ map spot (drop (i + 1) ps)
-    here = map-at spot ps i 0 h ∙ ap (λ (n : ℕ). spot n ∷ map spot (drop (i + 1) ps)) e
+-- where no unplaced stop is left before the next placed one: past that one, or past the end of the list
+past-placed : (a b m i : ℕ) (ps : List ℕ) → unheld b ≡ next (map spot (drop i ps)) → run (map spot (drop i ps)) ≡ 0
+    → spacedSoFar (unheld b) 1 (suc i) ps ≡ spacedSoFar (unheld a) m i ps
+unfolding next run spacedFrom
+past-placed a b m zero [] e f = refl
+past-placed a b m (suc i) [] e f = refl
+past-placed a b m zero (zero ∷ ps) e f = absurd (omega (arith, f))
+past-placed a b m zero (suc p ∷ ps) e f = ap (λ (z : ℤ). unheld (suc p) ∷ spacedFrom z 1 (map spot ps)) e
+past-placed a b m (suc i) (p ∷ ps) e f = ap (λ (l : List ℤ). unheld p ∷ l) (past-placed a b m i ps e f)
 
-    parts : (leZ (unheld a) (next (map spot (drop (i + 1) ps))) ≡ true) × Ready (unheld a) (map spot (drop (i + 1) ps))
-    unfolding Ready
-    parts = subst (Ready (unheld a)) here r
+past-ready : (a b i : ℕ) (ps : List ℕ) → unheld b ≡ next (map spot (drop i ps)) → run (map spot (drop i ps)) ≡ 0
+    → Ready (unheld a) (map spot (drop i ps)) → Ready (unheld b) (map spot (drop (suc i) ps))
+unfolding next run Ready
+past-ready a b zero [] e f r = tt
+past-ready a b (suc i) [] e f r = tt
+past-ready a b zero (zero ∷ ps) e f r = absurd (omega (arith, f))
+past-ready a b zero (suc p ∷ ps) e f r = rw e r
+past-ready a b (suc i) (p ∷ ps) e f r = past-ready a b i ps e f r
 
-    module _ (b n : ℕ) (f : Follows (drop (i + 1) ps) b n) where
-      pub not-above : a ≤ b
-      not-above = leb-true a b (sym (held-order a b offset) ∙ ap (leZ (unheld a)) (f .position) ∙ parts .0)
+module _ {zs : List ℤ} {a b m i : ℕ} {ps : List ℕ} (s : Spacing zs a b m m i ps) where
+  pub spaced-past : spacedSoFar (unheld b) 1 (i + 1) ps ≡ zs
+  spaced-past = rw (add-one i) (past-placed a b m i ps (s .position) (omega (arith, s .stops)) ∙ s .whole)
 
-      pub space-unplaced : (u : ℕ) → unheld u ≡ between (unheld a) (unheld b) m (m + 1 + n) → Stepped (unheld a) m (drop i ps) (drop (i + 1) ps) u a (m + 1)
-      unfolding spacedFrom
-      space-unplaced u q =
-          let rest = map spot (drop (i + 1) ps) in
-          record {
-            whole =
-                ap (λ (z : ℤ). z ∷ spacedFrom (unheld a) (m + 1) rest)
-                (q ∙ ap (λ (z : ℤ). between (unheld a) z m (m + 1 + n)) (f .position) ∙ ap (λ (k : ℕ). between (unheld a) (next rest) m (m + 1 + k)) (f .stops))
-                ∙ sym (ap (spacedFrom (unheld a) m) here);
-            ready = parts .1;
-            counted = omega arith;
-          }
+  pub ready-past : Ready (unheld b) (map spot (drop (i + 1) ps))
+  ready-past = rw (add-one i) (past-ready a b i ps (s .position) (omega (arith, s .stops)) (s .ready))

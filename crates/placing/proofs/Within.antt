@@ -2,11 +2,11 @@
 -- Assumes nothing.
 use mathlib.Core.Path.{_≡_, sym}
 use mathlib.Core.Bool.{Bool, true, false, cond, true≢false}
-use mathlib.Core.List.{List, [], _∷_, _++_, map}
+use mathlib.Core.List.{List, [], _∷_, map}
 use Prim.Native.Nat.{ℕ, zero, suc, _+_, _≤_, _<_}
 use native.Mathlib.Omega.{arith}
 use lib.IntN.{ℤ, pos, negsuc, natAbs}
-use lib.ListN.{length, getD}
+use lib.ListN.{take, getD}
 use lib.Signed.{leZ}
 use borrow.Author.Tests.{leb-true}
 use Rattle.numbers.specs.Held.{offset, unheld}
@@ -96,7 +96,8 @@ module _ (n : ℕ) where
       (raised-within unplaced (endsPlaced line l) tt (last-within (pos line) (firstAt (pos 0) l) p (first-within (pos 0) l (omega arith) h)))
 
   -- held, such positions are small
-  pub held-small : (us rest : List ℕ) → Within n (map unheld us) → (i : ℕ) → i < length us → getD (us ++ rest) i 0 ≤ offset + n
-  held-small [] rest f i h = absurd (omega arith)
-  held-small (u ∷ us) rest f zero h = let k : distance u offset ≤ n = rw (← diff-abs u offset) (f 0) in omega arith
-  held-small (u ∷ us) rest f (suc i) h = held-small us rest (λ j. f (suc j)) i (omega arith)
+  pub held-small : (k : ℕ) (us : List ℕ) → Within n (map unheld (take k us)) → (i : ℕ) → i < k → getD us i 0 ≤ offset + n
+  held-small zero us f i h = absurd (omega arith)
+  held-small (suc k) [] f i h = omega arith
+  held-small (suc k) (u ∷ us) f zero h = let d : distance u offset ≤ n = rw (← diff-abs u offset) (f 0) in omega arith
+  held-small (suc k) (u ∷ us) f (suc i) h = held-small k us (λ j. f (suc j)) i (omega arith)

@@ -2,9 +2,10 @@
 -- Assumes nothing.
 use mathlib.Core.Path.{_≡_}
 use mathlib.Core.Bool.{true}
-use mathlib.Core.List.{List, [], _∷_, map}
-use Prim.Native.Nat.{ℕ, zero, suc, _+_, _≤_, max}
+use mathlib.Core.List.{List, [], _∷_, _++_, map}
+use Prim.Native.Nat.{ℕ, zero, suc, _+_, max}
 use lib.IntN.{ℤ}
+use lib.ListN.{take, drop}
 use lib.Signed.{leZ}
 use Rattle.numbers.specs.Held.{unheld}
 use Rattle.placing.specs.Spot.{Spot, unplaced, at}
@@ -25,13 +26,18 @@ Ready A [] = Unit {0}
 Ready A (at p ∷ l) = Ready p l
 Ready A (unplaced ∷ l) = (leZ A (next l) ≡ true) × Ready A l
 
--- what is found after an unplaced stop: the next placed one, and how many unplaced stops stand before it
+-- what a search finds: the next placed stop, and how many unplaced ones stand before it
 pub record Follows (l : List ℕ) (to count : ℕ) : Type 0 where
   pub position : unheld to ≡ next (map spot l)
   pub stops : count ≡ run (map spot l)
 
--- one stop spaced: its position, and with what the spacing of the rest goes on
-pub record Stepped (A : ℤ) (m : ℕ) (l rest : List ℕ) (p from count : ℕ) : Type 0 where
-  pub whole : unheld p ∷ spacedFrom (unheld from) count (map spot rest) ≡ spacedFrom A m (map spot l)
-  pub ready : Ready (unheld from) (map spot rest)
-  pub counted : count ≤ m + 1
+-- the stops before i as they are, and what spacing makes of the rest; A is the last placed stop, and stop i the m-th after it
+abbrev pub spacedSoFar : ℤ → ℕ → ℕ → List ℕ → List ℤ
+spacedSoFar A m i ps = map unheld (take i ps) ++ spacedFrom A m (map spot (drop i ps))
+
+-- zs is being spaced, and is done up to stop i, the m-th after the placed stop a; the next placed stop is b, the k-th after a
+pub record Spacing (zs : List ℤ) (a b m k i : ℕ) (ps : List ℕ) : Type 0 where
+  pub whole : spacedSoFar (unheld a) m i ps ≡ zs
+  pub ready : Ready (unheld a) (map spot (drop i ps))
+  pub position : unheld b ≡ next (map spot (drop i ps))
+  pub stops : m + run (map spot (drop i ps)) ≡ k

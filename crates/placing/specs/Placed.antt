@@ -35,6 +35,10 @@ placedStops line stops = atPositions stops (fixup line (spotsOf line stops))
 unfoldable pub placedIn : Gradient → ℕ → ℕ → List PlacedStop
 placedIn g w h = placedStops (lengthOf (g .shape) w h) (stopsOf g)
 
+-- their positions
+abbrev pub positionsIn : Gradient → ℕ → ℕ → List ℤ
+positionsIn g w h = map (λ (p : PlacedStop). p .position) (placedIn g w h)
+
 -- a list of placed stops as a value: blank places stand after them
 abbrev pub listed : List PlacedStop → PlacedStops
 listed l = record { count = length l; stops = l ++ replicate (16 - length l) blankPlaced }

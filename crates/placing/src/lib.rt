@@ -19,9 +19,9 @@ ghost use Rattle.line.specs.Box.{Box};
 ghost use Rattle.line.specs.Bounds.{longest};
 ghost use Rattle.placing.specs.Spot.{spotOf};
 ghost use Rattle.placing.specs.Fixup.{orAt, endsPlaced, raised, between, spaced, fixup};
-ghost use Rattle.placing.specs.Placed.{spotsOf, placedAt, atPositions, placedIn, listed};
+ghost use Rattle.placing.specs.Placed.{spotsOf, placedAt, atPositions, placedIn, positionsIn, listed};
 ghost use Rattle.placing.specs.Reply.{boxIn, placeReply, placeOf};
-ghost use Rattle.placing.specs.Held.{spot, raisedHeld, Ready, Follows, Stepped};
+ghost use Rattle.placing.specs.Held.{spot, raisedHeld, Ready, Follows, spacedSoFar, Spacing};
 
 // The reply, and the placed stops where it is 0.
 pub struct Placing {
@@ -151,46 +151,30 @@ fn part_way(a: u32, b: u32, m: usize, k: usize) -> u32
     a + (d as u32)
 }
 
-// A stop that is spaced, the last placed stop, and the place after it that the next unplaced stop has.
-struct Spaced {
-    at: u32,
-    from: u32,
-    count: usize,
-}
-
-fn space_stop(ps: &[u32], i: usize, a: u32, m: usize) -> Spaced
-    requires { ⌜ (i < length (now ps)) × (length (now ps) ≤ 16) × (m ≤ i + 1) × Ready (unheld a) (map spot (drop i (now ps))) ⌝ }
-    ensures { λ r. ⌜ Stepped (unheld a) m (drop i (now (ps .entry))) (drop (i + 1) (now (ps .entry))) (r .at) (r .from) (r .count) ⌝ }
+// The n unplaced stops from `from` on, spaced evenly between a and b.
+fn space_run(ps: &mut [u32], from: usize, n: usize, a: u32, b: u32)
+    requires { ⌜ (length (now ps) ≤ 16) × Follows (drop from (now ps)) b n × Ready (unheld a) (map spot (drop from (now ps))) ⌝ }
+    ensures { λ r. ⌜ Spacing (spacedSoFar (unheld a) 1 from (now (ps .entry))) a b (n + 1) (n + 1) (from + n) (now (ps .exit)) ⌝ }
 {
-    let p = ps[i];
-    if p != 0 {
-        return Spaced {
-            at: p,
-            from: p,
-            count: 1,
-        };
-    }
-    let t = next_placed(ps, i + 1);
-    Spaced {
-        at: part_way(a, t.at, m, m + 1 + t.run),
-        from: a,
-        count: m + 1,
+    let mut j: usize = 0;
+    while j < n {
+        ps[from + j] = part_way(a, b, j + 1, n + 1);
+        j += 1;
     }
 }
 
+// Each turn spaces the unplaced stops before the next placed one, and goes on after that.
 fn space_stops(ps: &mut [u32])
     requires { ⌜ (length (now ps) ≤ 16) × Ready (pos 0) (map spot (now ps)) ⌝ }
     ensures { λ r. ⌜ map unheld (now (ps .exit)) ≡ spaced (map spot (now (ps .entry))) ⌝ }
 {
     let mut a: u32 = 33554432;
-    let mut m: usize = 1;
     let mut i: usize = 0;
     while i < ps.len() {
-        let s = space_stop(ps, i, a, m);
-        ps[i] = s.at;
-        a = s.from;
-        m = s.count;
-        i += 1;
+        let t = next_placed(ps, i);
+        space_run(ps, i, t.run, a, t.at);
+        a = t.at;
+        i += t.run + 1;
     }
 }
 
@@ -235,10 +219,10 @@ fn attach(stops: [Stop; 16], ps: [u32; 16], n: usize) -> PlacedStops
     }
 }
 
-// The stops of a gradient, placed in a box.
-pub fn place_in_box(g: Gradient, w: usize, h: usize) -> PlacedStops
+// The positions of a gradient's stops in a box, held, in the first places.
+pub fn positions_in_box(g: Gradient, w: usize, h: usize) -> [u32; 16]
     requires { ⌜ Box w h × Accepted g ⌝ }
-    ensures { λ r. ⌜ r ≡ listed (placedIn g w h) ⌝ }
+    ensures { λ r. ⌜ map unheld (take (g .count) r) ≡ positionsIn g w h ⌝ }
 {
     let shape = g.shape;
     let line = line::line_length(shape, w, h);
@@ -246,7 +230,17 @@ pub fn place_in_box(g: Gradient, w: usize, h: usize) -> PlacedStops
     let stops = g.stops;
     let mut ps = list_units(stops, n, line);
     fix_up(&mut ps[..n], line);
-    attach(stops, ps, n)
+    ps
+}
+
+// The stops of a gradient, placed in a box.
+pub fn place_in_box(g: Gradient, w: usize, h: usize) -> PlacedStops
+    requires { ⌜ Box w h × Accepted g ⌝ }
+    ensures { λ r. ⌜ r ≡ listed (placedIn g w h) ⌝ }
+{
+    let n = g.count as usize;
+    let stops = g.stops;
+    attach(stops, positions_in_box(g, w, h), n)
 }
 
 // Whether a box is from 1 to 2,048 pixels wide and high.

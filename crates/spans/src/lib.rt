@@ -123,7 +123,11 @@ fn gap(positions: &[u32], values: &[u32], i: usize, end: u32) -> Span
     if g >= 262144 {
         return no_span();
     }
-    let walks = walk::begin_all(values, i, g, 1, 0);
+    if g <= 16384 {
+        let walks = walk::begin_short_all(values, i, g, 1, 0);
+        return Span { from, end, walks };
+    }
+    let walks = walk::begin_long_all(values, i, g, 1, 0);
     Span { from, end, walks }
 }
 

@@ -2,3 +2,4 @@ pub mod Number
 pub mod Color
 pub mod View
 pub mod Worked
+pub mod Packed

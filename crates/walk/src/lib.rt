@@ -117,28 +117,46 @@ fn begin_short_channel(values: &[u32], k: usize, m: usize, g: u32, s: u32, x: u3
     begin_short(values[k], values[m], g, s, x, r)
 }
 
-// The walks in steps of s units at x units from stop i, of g up to the next.
-pub fn begin_all(values: &[u32], i: usize, g: u32, s: u32, x: u32) -> Channels
+// The walks in steps of s units at x units from stop i, of g up to the next: g is at most 16,384.
+pub fn begin_short_all(values: &[u32], i: usize, g: u32, s: u32, x: u32) -> Channels
+    requires { ⌜ (4 * i + 7 < length (now values)) × Small (now values) × Gap g s x × (g ≤ 16384) ⌝ }
+    ensures { λ w. ⌜ Going (now (values .entry)) i g s x 262144 w ⌝ }
+{
+    let k = 4 * i;
+    let m = 4 * (i + 1);
+    let r = color::inverse_of(g as u64);
+    Channels {
+        red: begin_short_channel(values, k, m, g, s, x, r),
+        green: begin_short_channel(values, k + 1, m + 1, g, s, x, r),
+        blue: begin_short_channel(values, k + 2, m + 2, g, s, x, r),
+        alpha: begin_short_channel(values, k + 3, m + 3, g, s, x, r),
+    }
+}
+
+// The same for any g.
+pub fn begin_long_all(values: &[u32], i: usize, g: u32, s: u32, x: u32) -> Channels
     requires { ⌜ (4 * i + 7 < length (now values)) × Small (now values) × Gap g s x ⌝ }
     ensures { λ w. ⌜ Going (now (values .entry)) i g s x 262144 w ⌝ }
 {
     let k = 4 * i;
     let m = 4 * (i + 1);
-    if g <= 16384 {
-        let r = color::inverse_of(g as u64);
-        return Channels {
-            red: begin_short_channel(values, k, m, g, s, x, r),
-            green: begin_short_channel(values, k + 1, m + 1, g, s, x, r),
-            blue: begin_short_channel(values, k + 2, m + 2, g, s, x, r),
-            alpha: begin_short_channel(values, k + 3, m + 3, g, s, x, r),
-        };
-    }
     Channels {
         red: begin_channel(values, k, m, g, s, x),
         green: begin_channel(values, k + 1, m + 1, g, s, x),
         blue: begin_channel(values, k + 2, m + 2, g, s, x),
         alpha: begin_channel(values, k + 3, m + 3, g, s, x),
     }
+}
+
+// The sooner of the two. It has one caller: a compiler then makes it part of that, and keeps the walks of a short gap out of memory.
+pub fn begin_all(values: &[u32], i: usize, g: u32, s: u32, x: u32) -> Channels
+    requires { ⌜ (4 * i + 7 < length (now values)) × Small (now values) × Gap g s x ⌝ }
+    ensures { λ w. ⌜ Going (now (values .entry)) i g s x 262144 w ⌝ }
+{
+    if g <= 16384 {
+        return begin_short_all(values, i, g, s, x);
+    }
+    begin_long_all(values, i, g, s, x)
 }
 
 // The walks a step further.

@@ -2,10 +2,14 @@
 -- Assumes nothing.
 use mathlib.Core.Path.{_≡_, refl, sym, ap, _∙_, subst}
 use mathlib.Core.Bool.{true}
-use mathlib.Core.List.{List, map}
+use mathlib.Core.List.{List}
 use Prim.Native.Nat.{ℕ, zero, suc}
 use lib.ListN.{length}
+use Rattle.gradient.specs.Check.{Accepted, checkOf}
+use Rattle.gradient.proofs.Laws.{accepted}
+use Rattle.line.specs.Box.{Box}
 use Rattle.line.specs.Line.{ruleOf}
+use Rattle.line.proofs.Bounds.{bounds}
 use Rattle.reader.specs.declared.Reading.{Reading}
 use Rattle.reader.specs.Reading.{readOf}
 use Rattle.reader.proofs.Accepted.{read-accepted}
@@ -14,9 +18,12 @@ use Rattle.stops.specs.declared.PlacedStops.{PlacedStops}
 use Rattle.placing.specs.declared.Placing.{Placing}
 use Rattle.placing.specs.Placed.{placedIn}
 use Rattle.placing.specs.Reply.{handedOut, boxIn, placeReply, placeOf}
-use Rattle.color.specs.Stop.{stopOf}
-use Rattle.drawing.specs.Replies.{roomReply, gradientReply}
+use Rattle.rows.specs.Pixel.{Strip}
+use Rattle.drawing.specs.Replies.{roomReply}
 use Rattle.drawing.specs.Drawn.{Drawn}
+use Rattle.drawing.specs.Inner.{Painted}
+use Rattle.drawing.proofs.Accepted.{roomy}
+use Rattle.drawing.proofs.Accurate.{drawn}
 use Rattle.whole.specs.Text.{placeTextReply, placeTextOf, drawTextReply, textRule, textStops}
 
 none : (r : ℕ) (p : PlacedStops) → (r ≡ 0 → ⊥) → _≡_ {A = Placing} (record { reply = r; stops = noStops }) (record { reply = r; stops = handedOut r p })
@@ -38,11 +45,18 @@ module _ (text : List ℕ) (w h : ℕ) where
     unfolding placeOf placeReply placeTextOf placeTextReply
     placed-text b = rw (e, b, read-accepted text read-zero, read-zero)
 
-    -- and drawn
-    pub drawn-text : (r : ℕ) (before after : List ℕ) → roomReply w h (length before) ≡ 0
-        → Drawn (gradientReply (reading .gradient) w h (length before)) (ruleOf (reading .gradient .shape) w h) (map stopOf (placedIn (reading .gradient) w h)) w h r before after
-        → Drawn (drawTextReply text w h (length before)) (textRule text w h) (textStops text w h) w h r before after
-    drawn-text r before after room d =
-        let k = subst (λ (x : Reading). Drawn (gradientReply (x .gradient) w h (length before)) (ruleOf (x .gradient .shape) w h) (map stopOf (placedIn (x .gradient) w h)) w h r before after) e d in
-        let same : gradientReply (readOf text .gradient) w h (length before) ≡ drawTextReply text w h (length before) = rw (room, read-accepted text read-zero, read-zero) in
-        record { reply = k .reply ∙ same; bytes-left = k .bytes-left; pixels = k .pixels }
+    -- a gradient that was read can be drawn
+    pub drawable-text : (n : ℕ) → roomReply w h n ≡ 0 → Box w h × Accepted (reading .gradient) × Strip w h 0 h n
+    drawable-text n room =
+        let k = roomy w h n room in
+        (k .box, accepted (reading .gradient) (ap (λ (x : Reading). checkOf (x .gradient)) e ∙ read-accepted text read-zero), k .all-rows)
+
+    -- and what is painted of it is drawn of the text
+    pub drawn-text : (before after : List ℕ) → roomReply w h (length before) ≡ 0
+        → Painted (ruleOf (reading .gradient .shape) w h) (placedIn (reading .gradient) w h) w 0 h before after
+        → Drawn (drawTextReply text w h (length before)) (textRule text w h) (textStops text w h) w h 0 before after
+    drawn-text before after room d =
+        let k = subst (λ (x : Reading). Painted (ruleOf (x .gradient .shape) w h) (placedIn (x .gradient) w h) w 0 h before after) e d in
+        let zero : drawTextReply text w h (length before) ≡ 0 = rw (room, read-zero) in
+        drawn (drawTextReply text w h (length before)) (textRule text w h) w h before after (placedIn (readOf text .gradient) w h)
+        (bounds .some-scale (readOf text .gradient .shape) w h (roomy w h (length before) room .box)) zero k

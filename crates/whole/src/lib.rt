@@ -52,5 +52,6 @@ pub fn draw_text(s: &[u8], w: usize, h: usize, buf: &mut [u8]) -> u32
     if reading.reply != 0 {
         return refuse(buf, reading.reply);
     }
-    drawing::draw_gradient(reading.gradient, w, h, buf)
+    drawing::draw_strip(reading.gradient, w, h, 0, h, buf);
+    0
 }

@@ -3,14 +3,16 @@ use mathlib.Core.Path.{_≡_, sym}
 use native.Mathlib.Omega.{arith}
 use lib.ListN.{length}
 use lib.Seq.{length-take-le}
+use Rattle.stops.specs.Check.{placedOf}
 use Rattle.color.specs.Arrays.{Holds}
-use Rattle.color.proofs.Arrays.{holds}
+use Rattle.color.proofs.Arrays.{placed-holds}
 use borrow.Author.Needs.{needs}
 use Rattle.bothways.proofs.draw_stops.Statement.{statement}
 use Rattle.bothways.proofs.draw_stops.Tie as tie
 
-abbrev stopsHeld : (c : tie.After-values-of) → Holds (c .before .before .before .before .args .p) (c .before .positions-of .result) (c .values-of .result)
-stopsHeld c = holds (c .before .before .before .before .args .p) _ _ (c .before .before .before .before .pre .1) (c .before .before .before .before .pre .2) (c .before .positions-of .ensures) (c .values-of .ensures)
+abbrev stopsHeld : (c : tie.After-values-of)
+    → Holds (c .before .before .before .before .args .p .count) (placedOf (c .before .before .before .before .args .p)) (c .before .positions-of .result) (c .values-of .result)
+stopsHeld c = placed-holds (c .before .before .before .before .args .p) _ _ (c .before .before .before .before .pre .1) (c .before .before .before .before .pre .2) (c .before .positions-of .ensures) (c .values-of .ensures)
 
 positions-of-requires : tie.Need-positions-of-requires
 positions-of-requires c κs = search needs

@@ -1,12 +1,15 @@
 -- `color::values_of` meets its contract. The invariant: the first 4 i places have the values of the first i stops. Assumes nothing.
-use mathlib.Core.Path.{_≡_, refl}
+use mathlib.Core.Path.{_≡_, refl, _∙_}
 use Prim.Native.Nat.{_≤_, _-_, _*_}
 use native.Mathlib.Omega.{arith}
-use lib.ListN.{length, take}
+use lib.ListN.{length, take, length-map}
 use lib.Seq.{length-take-le}
 use borrow.Author.Needs.{needs}
 use Rattle.gradient.proofs.Lists.{unmapped}
-use Rattle.color.specs.Arrays.{valuesOf}
+use Rattle.stops.specs.declared.PlacedStop.{PlacedStop}
+use Rattle.stops.specs.Blank.{blankPlaced}
+use Rattle.stops.specs.Check.{placedOf}
+use Rattle.color.specs.Arrays.{colorsOf, valuesOf}
 use Rattle.color.specs.Lent.{Small}
 use Rattle.color.proofs.Arrays.{values-more, small-zeros}
 use Rattle.color.proofs.Types.{placed-bytes}
@@ -14,7 +17,7 @@ use Rattle.color.proofs.values_of.Statement.{statement}
 use Rattle.color.proofs.values_of.Tie as tie
 
 abbrev Inv-loop : tie.InvT-loop
-Inv-loop p n values₀ i₀ values i = (i ≤ n) × (length values ≡ 64) × (take (4 * i) values ≡ valuesOf (take i (p .stops))) × Small values
+Inv-loop p n values₀ i₀ values i = (i ≤ n) × (length values ≡ 64) × (take (4 * i) values ≡ valuesOf (colorsOf (take i (p .stops)))) × Small values
 
 abbrev μ-loop : tie.MeasureT-loop
 μ-loop p n values₀ i₀ values i = n - i
@@ -53,7 +56,7 @@ loop-again c =
     let l = c .before .before .before .before .before .loop in
     let r = c .before .store .ensures in
     let n = sixteen s in
-    (search needs, search needs, values-more (s .args .t1 .stops) (l .i) (l .values) _ (omega arith) (l .inv .2) (r .0), r .1)
+    (search needs, search needs, values-more (λ (s : PlacedStop). s .color) blankPlaced (s .args .t1 .stops) (l .i) (l .values) _ (omega arith) (l .inv .2) (r .0), r .1)
 
 returns : tie.Need-returns Inv-loop μ-loop
 returns c =
@@ -64,7 +67,7 @@ returns c =
     record {
       values = rw e (l .inv .2);
       small = l .inv .3;
-      many = length-take-le (s .args .t1 .count) (s .args .t1 .stops) (omega arith);
+      many = length-map (placedOf (s .args .t1)) _ ∙ length-take-le (s .args .t1 .count) (s .args .t1 .stops) (omega arith);
       bytes = placed-bytes (s .args .t1) _ (s .good .0);
     }
 

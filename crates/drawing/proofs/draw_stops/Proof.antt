@@ -13,8 +13,8 @@ stops-reply-requires c κs = search needs
 line-of-requires : tie.Need-line-of-requires
 line-of-requires c κs = let k = along _ _ _ _ _ (sym (c .before .stops-reply .ensures) ∙ c .if1 .taken) in (k .room .box, k .gradient .shape)
 
-paint-requires : tie.Need-paint-requires
-paint-requires c κs =
+draw-placed-requires : tie.Need-draw-placed-requires
+draw-placed-requires c κs =
     let k = along _ _ _ _ _ (sym (c .before .before .before .stops-reply .ensures) ∙ c .before .before .if1 .taken) in
     (record { box = k .room .box; sound = c .before .line-of .ensures .sound }, k .stops .held, k .stops .some, k .room .all-rows)
 
@@ -24,7 +24,7 @@ same-length c = search needs
 returns : tie.Need-returns
 returns c =
     let z = sym (c .before .before .before .before .before .before .stops-reply .ensures) ∙ c .before .before .before .before .before .if1 .taken in
-    drawn _ _ _ _ _ _ _ (bounds .some-scale _ _ _ (along _ _ _ _ _ z .room .box)) z (painted-same (c .before .before .before .before .line-of .ensures .is) refl (c .before .before .paint .ensures))
+    drawn _ _ _ _ _ _ _ (bounds .some-scale _ _ _ (along _ _ _ _ _ z .room .box)) z (painted-same (c .before .before .before .before .line-of .ensures .is) refl (c .before .before .draw-placed .ensures))
 
 clear-requires : tie.Need-clear-requires
 clear-requires c κs = search needs
@@ -41,7 +41,7 @@ draw-stops-spec =
     (tie.spec
     stops-reply-requires
     line-of-requires
-    paint-requires
+    draw-placed-requires
     same-length
     returns
     clear-requires

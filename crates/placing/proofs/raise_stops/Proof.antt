@@ -66,7 +66,7 @@ same-length c = search needs
 returns : tie.Need-returns Inv-loop μ-loop
 returns c =
     let l = c .before .loop in
-    sym (all-done spot spot (l .ps) (l .i) (raisedFrom (spot (l .g))) (raised-nil (spot (l .g))) (c .loop-test .left) (l .inv .0)) ∙ l .inv .2
+    sym (all-done spot spot (l .ps) (l .i) (raisedFrom (spot (l .g))) (raised-nil (spot (l .g))) (c .loop-test .left)) ∙ l .inv .2
 
 pub raise-stops-spec : {M : Type 1} → statement M
 raise-stops-spec =

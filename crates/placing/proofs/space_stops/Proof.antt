@@ -1,59 +1,63 @@
 -- `placing::space_stops` meets its contract. The loop's invariant: what is spaced, and what spacing makes of the rest.
 -- Assumes nothing.
 use mathlib.Core.Path.{_≡_, refl, sym, _∙_}
-use mathlib.Core.List.{map, _++_}
-use Prim.Native.Nat.{_≤_, _<_, _+_, _-_}
+use mathlib.Core.List.{map}
+use Prim.Native.Nat.{_≤_, _+_, _-_}
+use native.Mathlib.Nat.{add-assoc}
 use native.Mathlib.Omega.{arith}
-use lib.ListN.{length, drop, take, length-set}
-use lib.Seq.{drop-set-lt}
+use lib.ListN.{length, drop, length-drop}
 use borrow.Author.Needs.{needs}
 use Rattle.numbers.specs.Held.{unheld}
 use Rattle.placing.specs.Fixup.{spaced, spacedFrom}
-use Rattle.placing.specs.Held.{spot, Ready}
-use Rattle.placing.proofs.Scan.{in-place, all-done}
-use Rattle.placing.proofs.Steps.{spaced-nil}
+use Rattle.placing.specs.Held.{spot, Ready, spacedSoFar}
+use Rattle.placing.proofs.Scan.{all-done}
+use Rattle.placing.proofs.Steps.{run-bound, spaced-nil, spaced-past, ready-past}
 use Rattle.placing.proofs.space_stops.Statement.{statement}
 use Rattle.placing.proofs.space_stops.Tie as tie
 
 abbrev Inv-loop : tie.InvT-loop
-Inv-loop ps₀ a₀ m₀ i₀ ps a m i =
-    (i ≤ length ps) × (length ps ≡ length ps₀) × (m ≤ i + 1) × Ready (unheld a) (map spot (drop i ps))
-    × (map unheld (take i ps) ++ spacedFrom (unheld a) m (map spot (drop i ps)) ≡ spaced (map spot ps₀))
+Inv-loop ps₀ a₀ i₀ ps a i =
+    (length ps ≡ length ps₀) × Ready (unheld a) (map spot (drop i ps)) × (spacedSoFar (unheld a) 1 i ps ≡ spaced (map spot ps₀))
 
 abbrev μ-loop : tie.MeasureT-loop
-μ-loop ps₀ a₀ m₀ i₀ ps a m i = length ps - i
+μ-loop ps₀ a₀ i₀ ps a i = length ps - i
+
+-- the run ends in the list
+inside : (c : tie.After-next-placed Inv-loop μ-loop) → c .before .before .before .loop .i + c .next-placed .result .run ≤ length (c .before .before .before .loop .ps)
+inside c =
+    let l = c .before .before .before .loop in
+    omega (arith, c .next-placed .ensures .stops, run-bound (drop (l .i) (l .ps)), length-drop (l .i) (l .ps), c .before .before .loop-test .taken)
 
 loop-holds : tie.Need-loop-holds Inv-loop μ-loop
-loop-holds c = (search needs, refl, search needs, c .before .pre .1, refl)
+loop-holds c = (refl, c .before .pre .1, refl)
 
-space-stop-requires : tie.Need-space-stop-requires Inv-loop μ-loop
-space-stop-requires c κs = let l = c .before .before .loop in (search needs, omega (arith, l .inv .1, c .before .before .before .before .pre .0), l .inv .2, l .inv .3)
+next-placed-requires : tie.Need-next-placed-requires Inv-loop μ-loop
+next-placed-requires c κs = search needs
 
-mul-ps : tie.Need-mul-ps Inv-loop μ-loop
-mul-ps c = search needs
-
-slice-write-ps : tie.Need-slice-write-ps Inv-loop μ-loop
-slice-write-ps c = search needs
+space-run-requires : tie.Need-space-run-requires Inv-loop μ-loop
+space-run-requires c κs =
+    let l = c .before .before .before .before in
+    (omega (arith, l .loop .inv .0, l .before .before .pre .0), c .before .next-placed .ensures, l .loop .inv .1)
 
 add-i : tie.Need-add-i Inv-loop μ-loop
-add-i c = search needs
+add-i c = let h = inside (c .before .before .before .before .before) in search needs
+
+add-i-2 : tie.Need-add-i-2 Inv-loop μ-loop
+add-i-2 c = let h = inside (c .before .before .before .before .before) in search needs
 
 loop-less : tie.Need-loop-less Inv-loop μ-loop
-loop-less c = simp length-set (omega arith)
+loop-less c =
+    let n = c .before .before .before .before .before in
+    omega (arith, c .before .before .before .space-run .kept .0, n .before .before .loop-test .taken)
 
 loop-again : tie.Need-loop-again Inv-loop μ-loop
 loop-again c =
-    let l = c .before .before .before .loop in
-    let ps = l .ps in
-    let i = l .i in
-    let s = c .space-stop .result in
-    let e = c .space-stop .ensures in
-    let h : i < length ps = omega arith in (
-      simp length-set (omega arith),
-      simp length-set (l .inv .1),
-      omega (arith, e .counted, l .inv .2),
-      rw (drop-set-lt (i + 1) ps i (s .at) (omega arith)) (e .ready),
-      in-place unheld spot ps i (s .at) (spacedFrom (unheld (l .a)) (l .m)) (spacedFrom (unheld (s .from)) (s .count)) h (e .whole) ∙ l .inv .4,
+    let s = c .before .before .before .space-run in
+    let t = c .before .before .before .before .before .next-placed .result in
+    let l = c .before .before .before .before .before .before .before .before .loop in (
+      s .kept .0 ∙ l .inv .0,
+      rw (← add-assoc (l .i) (t .run) 1) (ready-past (s .ensures)),
+      rw (← add-assoc (l .i) (t .run) 1, ← l .inv .2) (spaced-past (s .ensures)),
     )
 
 same-length : tie.Need-same-length Inv-loop μ-loop
@@ -62,7 +66,7 @@ same-length c = search needs
 returns : tie.Need-returns Inv-loop μ-loop
 returns c =
     let l = c .before .loop in
-    sym (all-done unheld spot (l .ps) (l .i) (spacedFrom (unheld (l .a)) (l .m)) (spaced-nil (unheld (l .a)) (l .m)) (c .loop-test .left) (l .inv .0)) ∙ l .inv .4
+    sym (all-done unheld spot (l .ps) (l .i) (spacedFrom (unheld (l .a)) 1) (spaced-nil (unheld (l .a)) 1) (c .loop-test .left)) ∙ l .inv .2
 
 pub space-stops-spec : {M : Type 1} → statement M
 space-stops-spec =
@@ -71,10 +75,10 @@ space-stops-spec =
     Inv-loop
     μ-loop
     loop-holds
-    space-stop-requires
-    mul-ps
-    slice-write-ps
+    next-placed-requires
+    space-run-requires
     add-i
+    add-i-2
     loop-less
     loop-again
     same-length

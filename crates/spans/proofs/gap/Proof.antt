@@ -29,13 +29,21 @@ no-span-requires c κs = search needs
 returns : tie.Need-returns
 returns c = c .no-span .ensures _ _
 
-begin-all-requires : tie.Need-begin-all-requires
-begin-all-requires c κs = search needs
+begin-short-all-requires : tie.Need-begin-short-all-requires
+begin-short-all-requires c κs = search needs
 
 returns-2 : tie.Need-returns-2
 returns-2 c =
-    let s = c .before .before .before .before .before .before in
-    gap-colors (s .args .positions .now) (s .args .values .now) (s .pre .0) (s .args .i) (s .args .end) _ (s .pre .1) (s .pre .3) (omega arith) (c .begin-all .ensures)
+    let s = c .before .before .before .before .before .before .before in
+    gap-colors (s .args .positions .now) (s .args .values .now) (s .pre .0) (s .args .i) (s .args .end) _ (s .pre .1) (s .pre .3) (omega arith) (c .begin-short-all .ensures)
+
+begin-long-all-requires : tie.Need-begin-long-all-requires
+begin-long-all-requires c κs = search needs
+
+returns-3 : tie.Need-returns-3
+returns-3 c =
+    let s = c .before .before .before .before .before .before .before in
+    gap-colors (s .args .positions .now) (s .args .values .now) (s .pre .0) (s .args .i) (s .args .end) _ (s .pre .1) (s .pre .3) (omega arith) (c .begin-long-all .ensures)
 
 pub gap-spec : {M : Type 1} → statement M
 gap-spec =
@@ -49,5 +57,7 @@ gap-spec =
     sub-g
     no-span-requires
     returns
-    begin-all-requires
-    returns-2)
+    begin-short-all-requires
+    returns-2
+    begin-long-all-requires
+    returns-3)

@@ -3,7 +3,7 @@ use mathlib.Core.Path.{sym, ap, _∙_}
 use Rattle.gradient.proofs.Laws.{orElse-first, orElse-next}
 use Rattle.reader.specs.declared.Reading.{Reading}
 use Rattle.drawing.proofs.Accurate.{not-drawn}
-use Rattle.whole.proofs.Texts.{drawn-text}
+use Rattle.whole.proofs.Texts.{drawable-text, drawn-text}
 use borrow.Author.Needs.{needs}
 use Rattle.whole.proofs.draw_text.Statement.{statement}
 use Rattle.whole.proofs.draw_text.Tie as tie
@@ -37,14 +37,18 @@ returns-2 c =
     let zero = sym (c .before .before .before .before .before .before .before .before .room-reply .ensures) ∙ c .before .before .before .before .before .before .before .if1 .left in
     not-drawn _ _ _ _ _ _ _ (c .before .before .refuse2 .result) (e .0 ∙ orElse-next zero (ap (λ (x : Reading). x .reply) (c .before .before .before .before .before .before .read .ensures))) (λ z. c .before .before .before .before .if2 .taken (sym (e .0) ∙ z)) (e .1)
 
-draw-gradient-requires : tie.Need-draw-gradient-requires
-draw-gradient-requires c κs = search needs
+draw-strip-requires : tie.Need-draw-strip-requires
+draw-strip-requires c κs =
+    let r = c .before .before .before in
+    drawable-text _ _ _ (r .read .result) (r .read .ensures) (c .before .if2 .left) _ (sym (r .before .before .room-reply .ensures) ∙ r .before .if1 .left)
 
 same-length-3 : tie.Need-same-length-3
 same-length-3 c = search needs
 
 returns-3 : tie.Need-returns-3
-returns-3 c = drawn-text _ _ _ (c .before .before .before .before .before .before .read .result) (c .before .before .before .before .before .before .read .ensures) (c .before .before .before .before .if2 .left) _ _ _ (sym (c .before .before .before .before .before .before .before .before .room-reply .ensures) ∙ c .before .before .before .before .before .before .before .if1 .left) (c .before .before .draw-gradient .ensures)
+returns-3 c =
+    let r = c .before .before .before .before .before .before in
+    drawn-text _ _ _ (r .read .result) (r .read .ensures) (c .before .before .before .before .if2 .left) _ _ (sym (r .before .before .room-reply .ensures) ∙ r .before .if1 .left) (c .before .before .draw-strip .ensures)
 
 pub draw-text-spec : {M : Type 1} → statement M
 draw-text-spec =
@@ -58,6 +62,6 @@ draw-text-spec =
     refuse-requires-2
     same-length-2
     returns-2
-    draw-gradient-requires
+    draw-strip-requires
     same-length-3
     returns-3)
