@@ -2,7 +2,8 @@
 use line::HeldVector;
 use line::Line;
 ghost use mathlib.Core.Path.{_≡_};
-ghost use Prim.Native.Nat.{_+_, _-_, _*_, _≤_, _<_};
+ghost use mathlib.Core.List.{List};
+ghost use Prim.Native.Nat.{ℕ, _+_, _-_, _*_, _≤_, _<_};
 ghost use lib.ListN.{length};
 ghost use Rattle.picture.specs.Picture.{row, copies, strip, patched};
 ghost use Rattle.words.specs.Word.{wordBytes};
@@ -44,28 +45,38 @@ fn row_bytes() -> [u8; 8192] {
     [0u8; 8192]
 }
 
-// The bytes of a small box's row.
-fn few_bytes() -> [u8; 1024] {
-    [0u8; 1024]
-}
-
 // Room for the bytes of two or more rows of a small box.
 fn block_bytes() -> [u8; 2048] {
     [0u8; 2048]
 }
 
-// Writes the entries' bytes, pixel by pixel of a row.
-fn write_row(t: &[u32], back: bool, w: usize, bytes: &mut [u8])
-    requires { ⌜ (w ≤ length (now t)) × (4 * w ≤ length (now bytes)) ⌝ }
-    ensures { λ _. ⌜ now (bytes .exit) ≡ patched (now (bytes .entry)) 0 (row (byColumn (now (t .entry)) back w) w 0) ⌝ }
+// Writes the entries' bytes from `at` on, pixel by pixel of a row.
+fn write_row(t: &[u32], back: bool, w: usize, bytes: &mut [u8], at: usize)
+    requires { ⌜ (w ≤ length (now t)) × (at + 4 * w ≤ length (now bytes)) ⌝ }
+    ensures { λ _. ⌜ now (bytes .exit) ≡ patched (now (bytes .entry)) at (row (byColumn (now (t .entry)) back w) w 0) ⌝ }
 {
     let mut i = 0;
-    let mut o = 0;
+    let mut o = at;
     while i < w {
         let k = place(i, w, back);
         words::put_word(bytes, o, t[k]);
         o += 4;
         i += 1;
+    }
+}
+
+// Writes k such rows from the start on.
+fn write_rows(t: &[u32], back: bool, w: usize, bytes: &mut [u8], k: usize)
+    requires { ⌜ (w ≤ length (now t)) × (4 * w * k ≤ length (now bytes)) ⌝ }
+    ensures { λ _. ⌜ now (bytes .exit) ≡ patched (now (bytes .entry)) 0 (copies k (row (byColumn (now (t .entry)) back w) w 0)) ⌝ }
+{
+    let m = 4 * w;
+    let mut j = 0;
+    let mut o = 0;
+    while j < k {
+        write_row(t, back, w, bytes, o);
+        o += m;
+        j += 1;
     }
 }
 
@@ -83,15 +94,14 @@ fn copy_times(buf: &mut [u8], bytes: &[u8], n: usize)
     }
 }
 
-// The same with a block of k copies, from which most are made at once.
-fn copy_blocks(buf: &mut [u8], block: &mut [u8], k: usize, bytes: &[u8], n: usize)
-    requires { ⌜ (0 < k) × (length (now block) ≡ length (now bytes) * k) × (length (now bytes) * n ≤ length (now buf)) ⌝ }
-    ensures { λ _. ⌜ now (buf .exit) ≡ patched (now (buf .entry)) 0 (copies n (now (bytes .entry))) ⌝ }
+// Copies m bytes n times from the buffer's start on, most of them at once: a block has them k times.
+fn copy_blocks(buf: &mut [u8], block: &[u8], k: usize, m: usize, n: usize)
+    requires { ⌜ (0 < k) × (length (now block) ≡ m * k) × (m * n ≤ length (now buf)) ⌝ }
+    ensures { λ _. ⌜ ((s : List ℕ) → length s ≡ m → now (block .entry) ≡ copies k s → now (buf .exit) ≡ patched (now (buf .entry)) 0 (copies n s)) ⌝ }
 {
-    copy_times(block, bytes, k);
     copy_times(buf, block, n / k);
     let o = block.len() * (n / k);
-    let rest = bytes.len() * (n % k);
+    let rest = m * (n % k);
     picture::copy_in(buf, o, &block[..rest]);
 }
 
@@ -101,13 +111,12 @@ fn rows_small(t: &[u32], back: bool, w: usize, n: usize, buf: &mut [u8])
     requires { ⌜ (w ≤ length (now t)) × (0 < w) × (w ≤ 256) × (0 < n) × (4 * w * n ≤ length (now buf)) ⌝ }
     ensures { λ _. ⌜ now (buf .exit) ≡ patched (now (buf .entry)) 0 (copies n (row (byColumn (now (t .entry)) back w) w 0)) ⌝ }
 {
-    let mut bytes = few_bytes();
     let mut block = block_bytes();
     let m = 4 * w;
     let k = picture::at_most(2048 / m, n);
     let size = m * k;
-    write_row(t, back, w, &mut bytes[..m]);
-    copy_blocks(buf, &mut block[..size], k, &bytes[..m], n);
+    write_rows(t, back, w, &mut block[..size], k);
+    copy_blocks(buf, &block[..size], k, m, n);
 }
 
 // Draws n rows of any box with the entries' bytes, one by one.
@@ -117,7 +126,7 @@ fn rows_large(t: &[u32], back: bool, w: usize, n: usize, buf: &mut [u8])
 {
     let mut bytes = row_bytes();
     let m = 4 * w;
-    write_row(t, back, w, &mut bytes[..m]);
+    write_row(t, back, w, &mut bytes[..m], 0);
     copy_times(buf, &bytes[..m], n);
 }
 

@@ -1,6 +1,6 @@
 -- Laws of whole texts, of the items between commas, and of lists of stops.
 -- Assumes nothing.
-use mathlib.Core.Path.{_≡_, refl, sym, ap, _∙_}
+use mathlib.Core.Path.{_≡_, refl, sym, ap, _∙_, subst}
 use mathlib.Core.Bool.{Bool, true, false, cond, not, _||_, _&&_, and-true}
 use mathlib.Core.List.{List, [], _∷_, _++_, append-nil}
 use Prim.Native.Nat.{ℕ, suc, _+_, _-_, _≤_, _<_, min}
@@ -9,8 +9,8 @@ use native.Mathlib.Numerals.{add-one}
 use native.Mathlib.Omega.{arith}
 use lib.Dec.{leb}
 use lib.IntN.{ℤ}
-use lib.ListN.{length, getD, take, drop, set, length-append, drop-of-length-le}
-use lib.Seq.{drop-cons, drop-drop, take-append-seam, drop-append-seam, take-append-le, take-all, append-snoc, set-append-seam}
+use lib.ListN.{length, getD, take, drop, set, length-append, length-drop, drop-of-length-le}
+use lib.Seq.{length-take-le, drop-cons, drop-drop, take-append-seam, drop-append-seam, take-append-le, take-all, append-snoc, set-append-seam}
 use borrow.Author.Tests.{lt-ltb, le-ltb, le-leb, lt-leb, eq-eqb, ne-eqb, leb-true, leb-false}
 use Rattle.text.specs.Text.{is, run, past, Read, got, refused, mapRead, wholeOf}
 use Rattle.text.proofs.Laws.{run-past, map-same}
@@ -24,15 +24,15 @@ use Rattle.stoplist.specs.declared.Listing.{Listing}
 
 -- ---- the search for a comma: how long the item at i is
 module _ (s : List ℕ) (i : ℕ) where
-  pub comma-on : i < length s → (getD s i 0 ≡ 44 → ⊥) → length (run notComma (drop i s)) ≡ suc (length (run notComma (drop (i + 1) s)))
+  comma-on : i < length s → (getD s i 0 ≡ 44 → ⊥) → length (run notComma (drop i s)) ≡ suc (length (run notComma (drop (i + 1) s)))
   unfolding run notComma
   comma-on h e = rw (drop-cons s i 0, ne-eqb _ _ e, add-one)
 
-  pub comma-here : i < length s → getD s i 0 ≡ 44 → length (run notComma (drop i s)) ≡ 0
+  comma-here : i < length s → getD s i 0 ≡ 44 → length (run notComma (drop i s)) ≡ 0
   unfolding run notComma
   comma-here h e = rw (drop-cons s i 0, eq-eqb _ _ e)
 
-  pub comma-end : length s ≤ i → length (run notComma (drop i s)) ≡ 0
+  comma-end : length s ≤ i → length (run notComma (drop i s)) ≡ 0
   unfolding run
   comma-end h = rw (drop-of-length-le s)
 
@@ -43,17 +43,36 @@ run-take p l = rw (run-past p l) at (take-append-seam (run p l) (past p l))
 past-drop : (p : ℕ → Bool) (l : List ℕ) → drop (length (run p l)) l ≡ past p l
 past-drop p l = rw (run-past p l) at (drop-append-seam (run p l) (past p l))
 
-pub comma-at : (s : List ℕ) (at i : ℕ) → at ≤ i → i ≤ length s
-    → i + length (run notComma (drop i s)) ≡ at + length (run notComma (drop at s)) → length (run notComma (drop i s)) ≡ 0 → CommaAt s at i
-comma-at s at i h k e z =
-    let n : i - at ≡ length (run notComma (drop at s)) = omega arith in
-    let m : i ≡ at + length (run notComma (drop at s)) = omega arith in
+comma-at : (s : List ℕ) (at r : ℕ) → r ≤ length s → r ≡ at + length (run notComma (drop at s)) → CommaAt s at r
+comma-at s at r k m =
+    let n : r - at ≡ length (run notComma (drop at s)) = omega arith in
     record {
-      order = h;
+      order = omega arith;
       within = k;
       item = rw n (run-take notComma (drop at s));
       rest = ap (λ (x : ℕ). drop x s) m ∙ sym (drop-drop (length (run notComma (drop at s))) at s) ∙ past-drop notComma (drop at s);
     }
+
+-- no comma stands from `at` up to i: what is passed and the rest of the item are as long as the item
+pub record Searched (s : List ℕ) (at i : ℕ) : Type 0 where
+  pub within : i ≤ length s
+  pub same : i + length (run notComma (drop i s)) ≡ at + length (run notComma (drop at s))
+
+module _ {s : List ℕ} {at i : ℕ} (f : Searched s at i) where
+  pub searched-on : (j : ℕ) → i + 1 ≡ j → i < length s → (getD s i 0 ≡ 44 → ⊥) → Searched s at j
+  searched-on j e h n = subst (Searched s at) e (record { within = omega arith; same = omega (arith, comma-on s i h n, f .same) })
+
+  pub comma-found : i < length s → getD s i 0 ≡ 44 → CommaAt s at i
+  comma-found h e = comma-at s at i (f .within) (omega (arith, comma-here s i h e, f .same))
+
+  pub comma-none : length s ≤ i → CommaAt s at i
+  comma-none h = comma-at s at i (f .within) (omega (arith, comma-end s i h, f .same))
+
+  -- and the search goes on from i
+  pub comma-later : (r : ℕ) → CommaAt s i r → CommaAt s at r
+  comma-later r c =
+      let n : r - i ≡ length (run notComma (drop i s)) = sym (length-take-le (r - i) (drop i s) (rw length-drop (omega (arith, c .within)))) ∙ ap length (c .item) in
+      comma-at s at r (c .within) (omega (arith, c .order, f .same))
 
 -- ---- the items: the first one, and what follows it, nothing or a comma and the items after it
 after : List ℕ → List (List ℕ)

@@ -143,8 +143,8 @@ fn still_wide(wide: bool, s: Stop) -> bool
     wide || !gradient::position_in(p)
 }
 
-// The first comma at or after a place, or the end.
-pub fn find_comma(s: &[u8], at: usize) -> usize
+// The first comma at or after a place, or the end, looked for byte by byte.
+fn comma_from(s: &[u8], at: usize) -> usize
     requires { ⌜ at ≤ length (now s) ⌝ }
     ensures { λ r. ⌜ CommaAt (now (s .entry)) at r ⌝ }
 {
@@ -156,6 +156,30 @@ pub fn find_comma(s: &[u8], at: usize) -> usize
         i += 1;
     }
     i
+}
+
+// The same, four bytes at a time as long as there are so many.
+pub fn find_comma(s: &[u8], at: usize) -> usize
+    requires { ⌜ at ≤ length (now s) ⌝ }
+    ensures { λ r. ⌜ CommaAt (now (s .entry)) at r ⌝ }
+{
+    let mut i = at;
+    while 4 <= s.len() - i {
+        if s[i] == b',' {
+            return i;
+        }
+        if s[i + 1] == b',' {
+            return i + 1;
+        }
+        if s[i + 2] == b',' {
+            return i + 2;
+        }
+        if s[i + 3] == b',' {
+            return i + 3;
+        }
+        i += 4;
+    }
+    comma_from(s, i)
 }
 
 // The items from a place on as stops. Past the sixteenth only the count and the range are noted.

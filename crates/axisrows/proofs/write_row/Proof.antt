@@ -1,7 +1,7 @@
--- `axisrows::write_row` meets its contract. The invariant: the first i pixels stand from the start on. Assumes nothing.
+-- `axisrows::write_row` meets its contract. The invariant: the first i pixels stand from `at` on. Assumes nothing.
 use mathlib.Core.Path.{_≡_, refl, ap, _∙_}
 use mathlib.Core.List.{List}
-use Prim.Native.Nat.{ℕ, _-_, _*_, _≤_}
+use Prim.Native.Nat.{ℕ, _+_, _-_, _*_, _≤_}
 use native.Mathlib.Omega.{arith}
 use lib.ListN.{length, getD}
 use denote.Ref.{now}
@@ -14,14 +14,14 @@ use Rattle.axisrows.proofs.write_row.Statement.{statement}
 use Rattle.axisrows.proofs.write_row.Tie as tie
 
 abbrev Inv-loop : tie.InvT-loop
-Inv-loop t back w bytes₀ i₀ o₀ bytes i o =
-    (bytes ≡ patched bytes₀ 0 (row (byColumn t back w) i 0)) × (o ≡ 4 * i) × (i ≤ w) × (length bytes ≡ length bytes₀)
+Inv-loop t back w bytes₀ at i₀ o₀ bytes i o =
+    (bytes ≡ patched bytes₀ at (row (byColumn t back w) i 0)) × (o ≡ at + 4 * i) × (i ≤ w) × (length bytes ≡ length bytes₀)
 
 abbrev μ-loop : tie.MeasureT-loop
-μ-loop t back w bytes₀ i₀ o₀ bytes i o = w - i
+μ-loop t back w bytes₀ at i₀ o₀ bytes i o = w - i
 
 loop-holds : tie.Need-loop-holds Inv-loop μ-loop
-loop-holds c = (rw row-none (patch-none (now (c .before .before .args .bytes)) 0), omega arith, omega arith, refl)
+loop-holds c = (rw row-none (patch-none (now (c .before .before .args .bytes)) (c .before .before .args .at)), omega arith, omega arith, refl)
 
 place-requires : tie.Need-place-requires Inv-loop μ-loop
 place-requires c κs = omega arith
@@ -50,7 +50,7 @@ loop-again c =
     let l = c .before .before .before .before .before .before .before .loop in
     let px : (ℕ → ℕ → List ℕ) = byColumn (now (a .t)) (a .back) (a .w) in
     let e = c .before .before .put-word .ensures ∙ ap (λ (k : ℕ). patched (l .bytes) (l .o) (wordBytes (getD (now (a .t)) k 0))) (c .before .before .before .before .before .place .ensures .0) in (
-      rw row-more (patch-step (now (a .bytes)) (row px (l .i) 0) (px (l .i) 0) (l .bytes) _ 0 (l .o) (rw (row-length px (λ i j. refl)) (omega arith)) (omega arith) (l .inv .0) e),
+      rw row-more (patch-step (now (a .bytes)) (row px (l .i) 0) (px (l .i) 0) (l .bytes) _ (a .at) (l .o) (rw (row-length px (λ i j. refl)) (omega arith)) (omega arith) (l .inv .0) e),
       omega arith,
       omega arith,
       omega arith,
