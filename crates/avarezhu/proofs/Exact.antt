@@ -6,9 +6,11 @@ use mathlib.Core.List.{List}
 use Prim.Native.Nat.{ℕ, _-_, _≤_}
 use native.Mathlib.Omega.{arith}
 use lib.ListN.{length, replicate, length-append, length-replicate}
+use Rattle.replies.specs.Replies.{lowest}
+use Rattle.replies.specs.Room.{roomReply}
+use Rattle.replies.proofs.Laws.{orElse-zero, lowest-zero}
 use Rattle.gradient.specs.Check.{checkOf}
 use Rattle.gradient.specs.declared.Gradient.{Gradient}
-use Rattle.gradient.proofs.Laws.{orElse-zero}
 use Rattle.reader.specs.Reading.{readOf}
 use Rattle.reader.proofs.Accepted.{read-accepted}
 use Rattle.reader.proofs.Bytes.{read-bytes, read-full}
@@ -20,8 +22,6 @@ use Rattle.placing.specs.Placed.{placedIn, listed}
 use Rattle.placing.specs.Reply.{placeReply}
 use Rattle.placing.proofs.Replies.{place-accepted}
 use Rattle.placing.proofs.Laws.{placed-accepted}
-use Rattle.drawing.specs.Replies.{roomReply, lowest}
-use Rattle.drawing.proofs.Accepted.{lowest-zero}
 use Rattle.layout.specs.Words.{layoutOf}
 use Rattle.layout.specs.Taken.{takenReply, takenOf}
 use Rattle.layout.proofs.Exact as gradient-exact

@@ -1,29 +1,26 @@
 -- From what is said of values to what is said of the slices that hold them.
 -- Assumes nothing.
 use mathlib.Core.Path.{_≡_, refl, sym, ap, _∙_, subst}
-use mathlib.Core.Bool.{true}
 use mathlib.Core.List.{List, map}
-use Prim.Native.Nat.{ℕ, zero, suc, _≤_}
-use borrow.Author.Tests.{ltb-false, not-false}
+use Prim.Native.Nat.{ℕ, zero, suc}
 use lib.ListN.{length, replicate}
-use Rattle.gradient.specs.Replies.{_orElse_}
+use Rattle.replies.specs.Replies.{lowest}
+use Rattle.replies.specs.Room.{roomReply}
+use Rattle.replies.proofs.Laws.{lowest-zero, room-zero}
 use Rattle.gradient.specs.Check.{checkOf}
-use Rattle.gradient.proofs.Laws.{orElse-zero, given-zero}
 use Rattle.line.specs.Line.{ruleOf}
-use Rattle.line.specs.Location.{Rule}
 use Rattle.reader.specs.Reading.{readOf}
-use Rattle.stops.specs.Check.{placedOf, checkPlacedOf}
+use Rattle.stops.specs.Check.{placedOf}
 use Rattle.stops.specs.declared.PlacedStops.{PlacedStops}
 use Rattle.placing.specs.declared.Placing.{Placing}
-use Rattle.placing.specs.Placed.{placedIn, listed}
-use Rattle.placing.specs.Reply.{handedOut, boxIn, placeReply, placeOf}
-use Rattle.color.specs.Stop.{Stop, stopOf}
+use Rattle.placing.specs.Placed.{placedIn}
+use Rattle.placing.specs.Reply.{handedOut, placeReply, placeOf}
+use Rattle.color.specs.Stop.{stopOf}
 use Rattle.picture.specs.Picture.{padded, buffer}
 use Rattle.picture.proofs.Patches.{refused}
-use Rattle.drawing.specs.Replies.{roomReply, lowest, gradientReply, stopsReply}
+use Rattle.drawing.specs.Replies.{gradientReply, stopsReply}
 use Rattle.drawing.specs.Drawn.{Drawn}
-use Rattle.drawing.proofs.Accepted.{lowest-zero}
-use Rattle.whole.specs.Text.{placeTextReply, placeTextOf}
+use Rattle.from_text.specs.Text.{placeTextReply, placeTextOf}
 use Rattle.layout.specs.declared.Taken.{Taken}
 use Rattle.layout.specs.Taken.{takenReply, takenOf}
 use Rattle.layout.proofs.Exact.{taken-only}
@@ -52,15 +49,6 @@ handed-list p list {r = r} {before = before} a e h =
     let k : p .stops ≡ handedOut r list = e ∙ ap (λ (m : ℕ). handedOut m list) (sym (h .reply)) in
     record { reply = h .reply ∙ a; bytes-left = h .bytes-left ∙ ap (λ (l : PlacedStops). buffer r (placedLayoutOf l) (length before)) k ∙ same-buffer r list (length before) }
 
--- ---- the box and the lent slice for stops
-pub record StopsRoom (w h n : ℕ) : Type 0 where
-  pub box : boxIn w h ≡ true
-  pub room : stopsSize ≤ n
-
-pub roomy : (w h n : ℕ) → stopsRoom w h n ≡ 0 → StopsRoom w h n
-unfolding stopsRoom
-roomy w h n e = let k = orElse-zero _ _ e in record { box = not-false _ (given-zero _ _ (k .0)); room = ltb-false _ _ (given-zero _ _ (k .1)) }
-
 -- ---- the replies to slices that are handed in
 pub gradient-reply : (g : List ℕ) (t : Taken) → t ≡ takenOf g → t .reply ≡ takenReply g
 unfolding takenOf
@@ -76,7 +64,7 @@ pub handed-text : (text : List ℕ) (w h : ℕ) (p : Placing) {r : ℕ} {before 
     → Handed (placeCall text w h (length before)) (placedLayout (readOf text .gradient) w h) r before after
 unfolding placeTextOf placeTextReply
 handed-text text w h p {before = before} room e hand =
-    handed-list p _ (rw (e, room, roomy w h (length before) room .box)) (rw e) hand
+    handed-list p _ (rw (e, room, room-zero w h stopsSize (length before) room .box)) (rw e) hand
 
 module _ (g : List ℕ) (t : Taken) (e : t ≡ takenOf g) (z : t .reply ≡ 0) where
   taken-zero : takenOf g .reply ≡ 0
@@ -94,7 +82,7 @@ module _ (g : List ℕ) (t : Taken) (e : t ≡ takenOf g) (z : t .reply ≡ 0) w
       → Handed (placeGradientCall g w h (length before)) (placedLayout (takenOf g .gradient) w h) r before after
   unfolding placeOf placeReply
   handed-taken w h p {before = before} room k hand =
-      handed-list p _ (rw (k, e, room, roomy w h (length before) room .box, accepted, reply-zero)) (rw (k, e)) hand
+      handed-list p _ (rw (k, e, room, room-zero w h stopsSize (length before) room .box, accepted, reply-zero)) (rw (k, e)) hand
 
   -- its picture
   pub drawn-taken : (w h r : ℕ) (before after : List ℕ) → roomReply w h (length before) ≡ 0

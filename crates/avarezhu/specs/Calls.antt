@@ -1,24 +1,21 @@
 -- What the calls of the C side answer, and what they leave in a slice that is lent. Document 01: "Where the C side gets a chart or stops in a lent
 -- slice, 2 is also given when it is shorter than the one size docs/ states with its layout; it is all zeros after a refusal and zero past the
--- answer on 0." "The lowest number that applies is given."
+-- answer on 0."
 -- Assumes nothing.
 use mathlib.Core.Path.{_≡_}
-use mathlib.Core.Bool.{not}
 use mathlib.Core.List.{List, map}
 use Prim.Native.Nat.{ℕ}
-use lib.Dec.{ltb}
 use lib.ListN.{length}
-use Rattle.gradient.specs.Replies.{given, _orElse_}
+use Rattle.replies.specs.Replies.{_orElse_, lowest}
+use Rattle.replies.specs.Room.{sizeReply, roomFor, roomReply}
 use Rattle.gradient.specs.declared.Gradient.{Gradient}
 use Rattle.line.specs.Line.{ruleOf}
 use Rattle.line.specs.Location.{Rule}
 use Rattle.reader.specs.Reading.{readOf}
 use Rattle.stops.specs.Check.{placedOf}
 use Rattle.placing.specs.Placed.{placedIn, listed}
-use Rattle.placing.specs.Reply.{boxIn}
 use Rattle.color.specs.Stop.{Stop, stopOf}
 use Rattle.picture.specs.Picture.{buffer}
-use Rattle.drawing.specs.Replies.{roomReply, lowest}
 use Rattle.layout.specs.Taken.{takenReply, takenOf}
 use Rattle.stopslayout.specs.Words.{placedLayoutOf}
 use Rattle.stopslayout.specs.Taken.{takenStopsReply, takenStopsOf}
@@ -38,11 +35,11 @@ pub record Handed (answer : ℕ) (layout : List ℕ) (r : ℕ) (before after : L
 -- ---- the replies, with a lent slice of n bytes
 -- reading a text
 unfoldable pub readCall : List ℕ → ℕ → ℕ
-readCall text n = given (ltb n gradientSize) 2 orElse readOf text .reply
+readCall text n = sizeReply gradientSize n orElse readOf text .reply
 
 -- placing: the box, the lent slice, and then what is placed
-unfoldable pub stopsRoom : ℕ → ℕ → ℕ → ℕ
-stopsRoom w h n = given (not (boxIn w h)) 1 orElse given (ltb n stopsSize) 2
+abbrev pub stopsRoom : ℕ → ℕ → ℕ → ℕ
+stopsRoom w h n = roomFor w h stopsSize n
 
 abbrev pub placeCall : List ℕ → ℕ → ℕ → ℕ → ℕ
 placeCall text w h n = stopsRoom w h n orElse readOf text .reply

@@ -1,16 +1,16 @@
 // The calls of the C side: reading, placing and drawing on plain numbers and slices of bytes. include/avarezhu.h declares them, and docs/LAYOUT.md
 // has the layouts of a gradient and of placed stops.
 use placing::Placing;
-ghost use mathlib.Core.Path.{_≡_};
+use replies::DONE;
 ghost use Prim.Native.Nat.{_≤_};
 ghost use lib.ListN.{length};
 ghost use Rattle.reader.specs.Reading.{readOf};
-ghost use Rattle.whole.specs.Text.{drawTextReply, textRule, textStops};
+ghost use Rattle.from_text.specs.Text.{drawTextReply, textRule, textStops};
 ghost use Rattle.drawing.specs.Drawn.{Drawn};
 ghost use Rattle.layout.specs.Words.{layoutOf};
 ghost use Rattle.layout.specs.Taken.{takenOf};
 ghost use Rattle.stopslayout.specs.Words.{placedLayoutOf};
-ghost use Rattle.avarezhu.specs.Calls.{Handed, readCall, stopsRoom, placeCall, placeGradientCall, drawGradientCall, drawStopsCall, placedLayout, takenRule, gradientStops, listStops};
+ghost use Rattle.avarezhu.specs.Calls.{Handed, readCall, placeCall, placeGradientCall, drawGradientCall, drawStopsCall, placedLayout, takenRule, gradientStops, listStops};
 
 // ---- reading
 
@@ -20,39 +20,30 @@ pub extern "C" fn avarezhu_read(text: &[u8], out: &mut [u8]) -> u32
     ensures { λ r. ⌜ Handed (readCall (now (text .entry)) (length (now (out .entry)))) (layoutOf (readOf (now (text .entry)) .gradient))
         r (now (out .entry)) (now (out .exit)) ⌝ }
 {
-    if out.len() < 320 {
-        return whole::refuse(out, 2);
+    let r = replies::size_reply(layout::SIZE, out.len());
+    if r != DONE {
+        return replies::refuse(out, r);
     }
     let reading = reader::read(text);
-    if reading.reply != 0 {
-        return whole::refuse(out, reading.reply);
+    if reading.reply != DONE {
+        return replies::refuse(out, reading.reply);
     }
     layout::write(reading.gradient, out);
-    0
+    DONE
 }
 
 // ---- placing
-
-// The reply to a box, and to a slice of n bytes for stops.
-fn stops_room(w: usize, h: usize, n: usize) -> u32
-    ensures { λ r. ⌜ r ≡ stopsRoom w h n ⌝ }
-{
-    if !placing::box_in(w, h) {
-        return 1;
-    }
-    if n < 132 { 2 } else { 0 }
-}
 
 // Hands out placed stops, or their refusal.
 fn hand_out(p: Placing, out: &mut [u8]) -> u32
     requires { ⌜ 132 ≤ length (now out) ⌝ }
     ensures { λ r. ⌜ Handed (p .reply) (placedLayoutOf (p .stops)) r (now (out .entry)) (now (out .exit)) ⌝ }
 {
-    if p.reply != 0 {
-        return whole::refuse(out, p.reply);
+    if p.reply != DONE {
+        return replies::refuse(out, p.reply);
     }
     stopslayout::write(p.stops, out);
-    0
+    DONE
 }
 
 // Places the stops of a text in a box.
@@ -61,11 +52,11 @@ pub extern "C" fn avarezhu_place(text: &[u8], w: usize, h: usize, out: &mut [u8]
     ensures { λ r. ⌜ Handed (placeCall (now (text .entry)) w h (length (now (out .entry)))) (placedLayout (readOf (now (text .entry)) .gradient) w h)
         r (now (out .entry)) (now (out .exit)) ⌝ }
 {
-    let r = stops_room(w, h, out.len());
-    if r != 0 {
-        return whole::refuse(out, r);
+    let r = replies::room_for(w, h, stopslayout::SIZE, out.len());
+    if r != DONE {
+        return replies::refuse(out, r);
     }
-    hand_out(whole::place_text(text, w, h), out)
+    hand_out(from_text::place_text(text, w, h), out)
 }
 
 // Places the stops of a gradient that is handed in.
@@ -79,13 +70,13 @@ pub extern "C" fn avarezhu_place_gradient(
     ensures { λ r. ⌜ Handed (placeGradientCall (now (gradient .entry)) w h (length (now (out .entry))))
         (placedLayout (takenOf (now (gradient .entry)) .gradient) w h) r (now (out .entry)) (now (out .exit)) ⌝ }
 {
-    let r = stops_room(w, h, out.len());
-    if r != 0 {
-        return whole::refuse(out, r);
+    let r = replies::room_for(w, h, stopslayout::SIZE, out.len());
+    if r != DONE {
+        return replies::refuse(out, r);
     }
     let taken = layout::take(gradient);
-    if taken.reply != 0 {
-        return whole::refuse(out, taken.reply);
+    if taken.reply != DONE {
+        return replies::refuse(out, taken.reply);
     }
     hand_out(placing::place(taken.gradient, w, h), out)
 }
@@ -98,7 +89,7 @@ pub extern "C" fn avarezhu_draw(text: &[u8], w: usize, h: usize, pixels: &mut [u
     ensures { λ r. ⌜ Drawn (drawTextReply (now (text .entry)) w h (length (now (pixels .entry)))) (textRule (now (text .entry)) w h)
         (textStops (now (text .entry)) w h) w h r (now (pixels .entry)) (now (pixels .exit)) ⌝ }
 {
-    whole::draw_text(text, w, h, pixels)
+    from_text::draw_text(text, w, h, pixels)
 }
 
 // Draws a gradient that is handed in.
@@ -112,13 +103,13 @@ pub extern "C" fn avarezhu_draw_gradient(
     ensures { λ r. ⌜ Drawn (drawGradientCall (now (gradient .entry)) w h (length (now (pixels .entry)))) (takenRule (now (gradient .entry)) w h)
         (gradientStops (now (gradient .entry)) w h) w h r (now (pixels .entry)) (now (pixels .exit)) ⌝ }
 {
-    let r = drawing::room_reply(w, h, pixels.len());
-    if r != 0 {
-        return whole::refuse(pixels, r);
+    let r = replies::room_reply(w, h, pixels.len());
+    if r != DONE {
+        return replies::refuse(pixels, r);
     }
     let taken = layout::take(gradient);
-    if taken.reply != 0 {
-        return whole::refuse(pixels, taken.reply);
+    if taken.reply != DONE {
+        return replies::refuse(pixels, taken.reply);
     }
     drawing::draw_gradient(taken.gradient, w, h, pixels)
 }
@@ -135,15 +126,15 @@ pub extern "C" fn avarezhu_draw_stops(
     ensures { λ r. ⌜ Drawn (drawStopsCall (now (gradient .entry)) (now (stops .entry)) w h (length (now (pixels .entry)))) (takenRule (now (gradient .entry)) w h)
         (listStops (now (stops .entry))) w h r (now (pixels .entry)) (now (pixels .exit)) ⌝ }
 {
-    let r = drawing::room_reply(w, h, pixels.len());
-    if r != 0 {
-        return whole::refuse(pixels, r);
+    let r = replies::room_reply(w, h, pixels.len());
+    if r != DONE {
+        return replies::refuse(pixels, r);
     }
     let taken = layout::take(gradient);
     let list = stopslayout::take(stops);
-    let reply = drawing::lower(taken.reply, list.reply);
-    if reply != 0 {
-        return whole::refuse(pixels, reply);
+    let reply = replies::lower(taken.reply, list.reply);
+    if reply != DONE {
+        return replies::refuse(pixels, reply);
     }
     drawing::draw_stops(taken.gradient, list.stops, w, h, pixels)
 }

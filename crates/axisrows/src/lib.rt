@@ -1,26 +1,45 @@
-// Draws the rows of a picture along a level or an upright line: a color for each column or row, from a table with an entry to each pixel.
-use line::HeldVector;
+// Draws the rows of a picture along a horizontal or a vertical line, from a table with one entry for each column or each row.
 use line::Line;
+use line::SignedVector;
+use rows::Strip;
 ghost use mathlib.Core.Path.{_≡_};
 ghost use mathlib.Core.List.{List};
 ghost use Prim.Native.Nat.{ℕ, _+_, _-_, _*_, _≤_, _<_};
 ghost use lib.ListN.{length};
 ghost use Rattle.picture.specs.Picture.{row, copies, strip, patched};
 ghost use Rattle.words.specs.Word.{wordBytes};
-ghost use Rattle.rows.specs.Pixel.{Drawable, Strip, lentPixel};
-ghost use Rattle.axisrows.specs.Axis.{placeOf, firstOf, byColumn, byRow};
+ghost use Rattle.rows.specs.Pixel.{Drawable, stripOf};
+ghost use Rattle.axisrows.specs.Axis.{smallSide, fromStart, firstOf, byColumn, byRow};
+
+// The side of a pixel, in units.
+const PIXEL: u32 = 64;
+
+// The middle of a pixel, in units from its edge.
+const MIDDLE: u32 = 32;
+
+// The most pixels of a small box's side.
+const SMALL_SIDE: usize = 256;
+
+// The pixels of the largest box's side.
+const LARGEST_SIDE: usize = 2048;
+
+// The bytes of the largest box's row.
+const ROW_BYTES: usize = 4 * LARGEST_SIDE;
+
+// Room for the bytes of two or more rows of a small box.
+const BLOCK_BYTES: usize = 2048;
 
 // ---- entries
 
-// The entry of pixel i of n, where entries start at the last pixel if the line goes back.
-fn place(i: usize, n: usize, back: bool) -> usize
+// Which entry pixel i of n has: entries are counted from the side that the line starts at.
+fn from_start(i: usize, n: usize, back: bool) -> usize
     requires { ⌜ i < n ⌝ }
-    ensures { λ r. ⌜ (r ≡ placeOf back n i) × (r < n) ⌝ }
+    ensures { λ r. ⌜ (r ≡ fromStart back n i) × (r < n) ⌝ }
 {
     if back { n - 1 - i } else { i }
 }
 
-// The first of rows a up to b of h, counted from the side that the line starts at.
+// The first of the rows from a up to b of h, counted from the side that the line starts at.
 fn first(a: usize, b: usize, h: usize, back: bool) -> usize
     requires { ⌜ (a < b) × (b ≤ h) ⌝ }
     ensures { λ r. ⌜ (r ≡ firstOf back h a b) × (r ≤ h) ⌝ }
@@ -28,29 +47,25 @@ fn first(a: usize, b: usize, h: usize, back: bool) -> usize
     if back { h - b } else { a }
 }
 
-// An entry for each pixel of the largest box's side.
-fn entries() -> [u32; 2048] {
-    [0u32; 2048]
+fn entries() -> [u32; LARGEST_SIDE] {
+    [0u32; LARGEST_SIDE]
 }
 
-// An entry for each pixel of a small box's side, 256 at most.
-fn few_entries() -> [u32; 256] {
-    [0u32; 256]
+fn few_entries() -> [u32; SMALL_SIDE] {
+    [0u32; SMALL_SIDE]
 }
 
-// ---- a level line: every row is the same
+// ---- a horizontal line: every row is the same
 
-// The bytes of the largest box's row.
-fn row_bytes() -> [u8; 8192] {
-    [0u8; 8192]
+fn row_bytes() -> [u8; ROW_BYTES] {
+    [0u8; ROW_BYTES]
 }
 
-// Room for the bytes of two or more rows of a small box.
-fn block_bytes() -> [u8; 2048] {
-    [0u8; 2048]
+fn block_bytes() -> [u8; BLOCK_BYTES] {
+    [0u8; BLOCK_BYTES]
 }
 
-// Writes the entries' bytes from `at` on, pixel by pixel of a row.
+// Writes a row from `at` on, each pixel from its entry.
 fn write_row(t: &[u32], back: bool, w: usize, bytes: &mut [u8], at: usize)
     requires { ⌜ (w ≤ length (now t)) × (at + 4 * w ≤ length (now bytes)) ⌝ }
     ensures { λ _. ⌜ now (bytes .exit) ≡ patched (now (bytes .entry)) at (row (byColumn (now (t .entry)) back w) w 0) ⌝ }
@@ -58,14 +73,14 @@ fn write_row(t: &[u32], back: bool, w: usize, bytes: &mut [u8], at: usize)
     let mut i = 0;
     let mut o = at;
     while i < w {
-        let k = place(i, w, back);
+        let k = from_start(i, w, back);
         words::put_word(bytes, o, t[k]);
         o += 4;
         i += 1;
     }
 }
 
-// Writes k such rows from the start on.
+// Writes k such rows, one after the other.
 fn write_rows(t: &[u32], back: bool, w: usize, bytes: &mut [u8], k: usize)
     requires { ⌜ (w ≤ length (now t)) × (4 * w * k ≤ length (now bytes)) ⌝ }
     ensures { λ _. ⌜ now (bytes .exit) ≡ patched (now (bytes .entry)) 0 (copies k (row (byColumn (now (t .entry)) back w) w 0)) ⌝ }
@@ -80,7 +95,7 @@ fn write_rows(t: &[u32], back: bool, w: usize, bytes: &mut [u8], k: usize)
     }
 }
 
-// Copies all of `bytes` n times from the buffer's start on.
+// Fills the buffer's start with n copies of `bytes`.
 fn copy_times(buf: &mut [u8], bytes: &[u8], n: usize)
     requires { ⌜ length (now bytes) * n ≤ length (now buf) ⌝ }
     ensures { λ _. ⌜ now (buf .exit) ≡ patched (now (buf .entry)) 0 (copies n (now (bytes .entry))) ⌝ }
@@ -94,7 +109,7 @@ fn copy_times(buf: &mut [u8], bytes: &[u8], n: usize)
     }
 }
 
-// Copies m bytes n times from the buffer's start on, most of them at once: a block has them k times.
+// Fills the buffer's start with n copies of m bytes, from a block that has k copies of them.
 fn copy_blocks(buf: &mut [u8], block: &[u8], k: usize, m: usize, n: usize)
     requires { ⌜ (0 < k) × (length (now block) ≡ m * k) × (m * n ≤ length (now buf)) ⌝ }
     ensures { λ _. ⌜ ((s : List ℕ) → length s ≡ m → now (block .entry) ≡ copies k s → now (buf .exit) ≡ patched (now (buf .entry)) 0 (copies n s)) ⌝ }
@@ -105,21 +120,21 @@ fn copy_blocks(buf: &mut [u8], block: &[u8], k: usize, m: usize, n: usize)
     picture::copy_in(buf, o, &block[..rest]);
 }
 
-// Draws n rows of a small box with the entries' bytes, by blocks. Here and below what is copied from is an array of the function's own: a compiler
-// then knows that the buffer is apart from it, and leaves copying to the C library.
+// Draws n rows of a small box, in blocks. Here and below the bytes are copied from a local array, so that a compiler knows that it does not overlap the
+// buffer and calls the C library's copy.
 fn rows_small(t: &[u32], back: bool, w: usize, n: usize, buf: &mut [u8])
-    requires { ⌜ (w ≤ length (now t)) × (0 < w) × (w ≤ 256) × (0 < n) × (4 * w * n ≤ length (now buf)) ⌝ }
+    requires { ⌜ (w ≤ length (now t)) × (0 < w) × (w ≤ smallSide) × (0 < n) × (4 * w * n ≤ length (now buf)) ⌝ }
     ensures { λ _. ⌜ now (buf .exit) ≡ patched (now (buf .entry)) 0 (copies n (row (byColumn (now (t .entry)) back w) w 0)) ⌝ }
 {
     let mut block = block_bytes();
     let m = 4 * w;
-    let k = picture::at_most(2048 / m, n);
+    let k = picture::at_most(BLOCK_BYTES / m, n);
     let size = m * k;
     write_rows(t, back, w, &mut block[..size], k);
     copy_blocks(buf, &block[..size], k, m, n);
 }
 
-// Draws n rows of any box with the entries' bytes, one by one.
+// Draws n rows of any box, one by one.
 fn rows_large(t: &[u32], back: bool, w: usize, n: usize, buf: &mut [u8])
     requires { ⌜ (w ≤ length (now t)) × (w ≤ 2048) × (4 * w * n ≤ length (now buf)) ⌝ }
     ensures { λ _. ⌜ now (buf .exit) ≡ patched (now (buf .entry)) 0 (copies n (row (byColumn (now (t .entry)) back w) w 0)) ⌝ }
@@ -130,87 +145,52 @@ fn rows_large(t: &[u32], back: bool, w: usize, n: usize, buf: &mut [u8])
     copy_times(buf, &bytes[..m], n);
 }
 
-// Draws rows a up to b with a table for the columns.
-fn level_with(
-    t: &mut [u32],
-    positions: &[u32],
-    values: &[u32],
-    v: HeldVector,
-    w: usize,
-    h: usize,
-    a: usize,
-    b: usize,
-    buf: &mut [u8],
-)
-    requires { ⌜ (length (now t) ≡ w) × Drawable (now positions) (now values) (Line.Straight v) w h × Strip w h a b (length (now buf)) × (v .y ≡ 0) ⌝ }
-    ensures { λ _. ⌜ now (buf .exit) ≡ patched (now (buf .entry)) 0 (strip (lentPixel (now (positions .entry)) (now (values .entry)) (Line.Straight v) w h) w a b) ⌝ }
+// Fills a table for the columns and draws the rows.
+fn horizontal_with(t: &mut [u32], ramp: &[u32], v: SignedVector, z: Strip, buf: &mut [u8])
+    requires { ⌜ (length (now t) ≡ z .w) × Drawable (now ramp) (Line.Straight v) z (length (now buf)) × (v .y ≡ 0) ⌝ }
+    ensures { λ _. ⌜ now (buf .exit) ≡ patched (now (buf .entry)) 0 (stripOf (now (ramp .entry)) (Line.Straight v) z) ⌝ }
 {
-    table::fill_spaced(t, positions, values, 32, 64);
-    if w <= 256 {
-        rows_small(t, v.left, w, b - a, buf);
+    ramp::fill_spaced(t, ramp, MIDDLE, PIXEL);
+    if z.w <= SMALL_SIDE {
+        rows_small(t, v.left, z.w, z.b - z.a, buf);
     } else {
-        rows_large(t, v.left, w, b - a, buf);
+        rows_large(t, v.left, z.w, z.b - z.a, buf);
     }
 }
 
-// Draws rows a up to b where a small box's line is level, from the buffer's start on.
-fn level_small(
-    positions: &[u32],
-    values: &[u32],
-    v: HeldVector,
-    w: usize,
-    h: usize,
-    a: usize,
-    b: usize,
-    buf: &mut [u8],
-)
-    requires { ⌜ Drawable (now positions) (now values) (Line.Straight v) w h × Strip w h a b (length (now buf)) × (v .y ≡ 0) × (w ≤ 256) ⌝ }
-    ensures { λ _. ⌜ now (buf .exit) ≡ patched (now (buf .entry)) 0 (strip (lentPixel (now (positions .entry)) (now (values .entry)) (Line.Straight v) w h) w a b) ⌝ }
+// Draws a strip of a narrow box along a horizontal line.
+fn horizontal_small(ramp: &[u32], v: SignedVector, z: Strip, buf: &mut [u8])
+    requires { ⌜ Drawable (now ramp) (Line.Straight v) z (length (now buf)) × (v .y ≡ 0) × (z .w ≤ smallSide) ⌝ }
+    ensures { λ _. ⌜ now (buf .exit) ≡ patched (now (buf .entry)) 0 (stripOf (now (ramp .entry)) (Line.Straight v) z) ⌝ }
 {
     let mut t = few_entries();
-    level_with(&mut t[..w], positions, values, v, w, h, a, b, buf);
+    let n = z.w;
+    horizontal_with(&mut t[..n], ramp, v, z, buf);
 }
 
-// The same in any box.
-fn level_large(
-    positions: &[u32],
-    values: &[u32],
-    v: HeldVector,
-    w: usize,
-    h: usize,
-    a: usize,
-    b: usize,
-    buf: &mut [u8],
-)
-    requires { ⌜ Drawable (now positions) (now values) (Line.Straight v) w h × Strip w h a b (length (now buf)) × (v .y ≡ 0) ⌝ }
-    ensures { λ _. ⌜ now (buf .exit) ≡ patched (now (buf .entry)) 0 (strip (lentPixel (now (positions .entry)) (now (values .entry)) (Line.Straight v) w h) w a b) ⌝ }
+// The same in a box of any width.
+fn horizontal_large(ramp: &[u32], v: SignedVector, z: Strip, buf: &mut [u8])
+    requires { ⌜ Drawable (now ramp) (Line.Straight v) z (length (now buf)) × (v .y ≡ 0) ⌝ }
+    ensures { λ _. ⌜ now (buf .exit) ≡ patched (now (buf .entry)) 0 (stripOf (now (ramp .entry)) (Line.Straight v) z) ⌝ }
 {
     let mut t = entries();
-    level_with(&mut t[..w], positions, values, v, w, h, a, b, buf);
+    let n = z.w;
+    horizontal_with(&mut t[..n], ramp, v, z, buf);
 }
 
-// Draws rows a up to b where the line is level, from the buffer's start on.
-pub fn draw_level(
-    positions: &[u32],
-    values: &[u32],
-    v: HeldVector,
-    w: usize,
-    h: usize,
-    a: usize,
-    b: usize,
-    buf: &mut [u8],
-)
-    requires { ⌜ Drawable (now positions) (now values) (Line.Straight v) w h × Strip w h a b (length (now buf)) × (v .y ≡ 0) ⌝ }
-    ensures { λ _. ⌜ now (buf .exit) ≡ patched (now (buf .entry)) 0 (strip (lentPixel (now (positions .entry)) (now (values .entry)) (Line.Straight v) w h) w a b) ⌝ }
+// Draws a strip along a horizontal line, from the buffer's start.
+pub fn draw_horizontal(ramp: &[u32], v: SignedVector, z: Strip, buf: &mut [u8])
+    requires { ⌜ Drawable (now ramp) (Line.Straight v) z (length (now buf)) × (v .y ≡ 0) ⌝ }
+    ensures { λ _. ⌜ now (buf .exit) ≡ patched (now (buf .entry)) 0 (stripOf (now (ramp .entry)) (Line.Straight v) z) ⌝ }
 {
-    if w <= 256 {
-        level_small(positions, values, v, w, h, a, b, buf);
+    if z.w <= SMALL_SIDE {
+        horizontal_small(ramp, v, z, buf);
     } else {
-        level_large(positions, values, v, w, h, a, b, buf);
+        horizontal_large(ramp, v, z, buf);
     }
 }
 
-// ---- an upright line: every row is one pixel over and over
+// ---- a vertical line: all pixels of a row are the same
 
 // Writes a word n times from `at` on.
 fn fill_words(buf: &mut [u8], at: usize, n: usize, c: u32)
@@ -226,7 +206,7 @@ fn fill_words(buf: &mut [u8], at: usize, n: usize, c: u32)
     }
 }
 
-// Draws rows a up to b, each with its entry.
+// Draws the rows from a up to b, each from its entry.
 fn draw_entries(t: &[u32], back: bool, w: usize, a: usize, b: usize, buf: &mut [u8])
     requires { ⌜ (a ≤ b) × (b - a ≤ length (now t)) × (w ≤ 2048) × (4 * w * (b - a) ≤ length (now buf)) ⌝ }
     ensures { λ _. ⌜ now (buf .exit) ≡ patched (now (buf .entry)) 0 (strip (byRow (now (t .entry)) back a b) w a b) ⌝ }
@@ -235,88 +215,51 @@ fn draw_entries(t: &[u32], back: bool, w: usize, a: usize, b: usize, buf: &mut [
     let mut j = a;
     let mut o = 0;
     while j < b {
-        let k = place(j - a, b - a, back);
+        let k = from_start(j - a, b - a, back);
         fill_words(buf, o, w, t[k]);
         o += n;
         j += 1;
     }
 }
 
-// Draws rows a up to b with a table for these rows.
-fn upright_with(
-    t: &mut [u32],
-    positions: &[u32],
-    values: &[u32],
-    v: HeldVector,
-    w: usize,
-    h: usize,
-    a: usize,
-    b: usize,
-    buf: &mut [u8],
-)
-    requires { ⌜ (length (now t) ≡ b - a) × Drawable (now positions) (now values) (Line.Straight v) w h × Strip w h a b (length (now buf)) × (v .x ≡ 0) ⌝ }
-    ensures { λ _. ⌜ now (buf .exit) ≡ patched (now (buf .entry)) 0 (strip (lentPixel (now (positions .entry)) (now (values .entry)) (Line.Straight v) w h) w a b) ⌝ }
+// Fills a table for the rows and draws them.
+fn vertical_with(t: &mut [u32], ramp: &[u32], v: SignedVector, z: Strip, buf: &mut [u8])
+    requires { ⌜ (length (now t) ≡ z .b - z .a) × Drawable (now ramp) (Line.Straight v) z (length (now buf)) × (v .x ≡ 0) ⌝ }
+    ensures { λ _. ⌜ now (buf .exit) ≡ patched (now (buf .entry)) 0 (stripOf (now (ramp .entry)) (Line.Straight v) z) ⌝ }
 {
-    let base = 32 + 64 * (first(a, b, h, v.up) as u32);
-    table::fill_spaced(t, positions, values, base, 64);
-    draw_entries(t, v.up, w, a, b, buf);
+    let base = MIDDLE + PIXEL * (first(z.a, z.b, z.h, v.up) as u32);
+    ramp::fill_spaced(t, ramp, base, PIXEL);
+    draw_entries(t, v.up, z.w, z.a, z.b, buf);
 }
 
-// Draws few rows, a up to b, where the line is upright, from the buffer's start on.
-fn upright_small(
-    positions: &[u32],
-    values: &[u32],
-    v: HeldVector,
-    w: usize,
-    h: usize,
-    a: usize,
-    b: usize,
-    buf: &mut [u8],
-)
-    requires { ⌜ Drawable (now positions) (now values) (Line.Straight v) w h × Strip w h a b (length (now buf)) × (v .x ≡ 0) × (b - a ≤ 256) ⌝ }
-    ensures { λ _. ⌜ now (buf .exit) ≡ patched (now (buf .entry)) 0 (strip (lentPixel (now (positions .entry)) (now (values .entry)) (Line.Straight v) w h) w a b) ⌝ }
+// Draws a strip of few rows along a vertical line.
+fn vertical_small(ramp: &[u32], v: SignedVector, z: Strip, buf: &mut [u8])
+    requires { ⌜ Drawable (now ramp) (Line.Straight v) z (length (now buf)) × (v .x ≡ 0) × (z .b - z .a ≤ smallSide) ⌝ }
+    ensures { λ _. ⌜ now (buf .exit) ≡ patched (now (buf .entry)) 0 (stripOf (now (ramp .entry)) (Line.Straight v) z) ⌝ }
 {
     let mut t = few_entries();
-    let n = b - a;
-    upright_with(&mut t[..n], positions, values, v, w, h, a, b, buf);
+    let n = z.b - z.a;
+    vertical_with(&mut t[..n], ramp, v, z, buf);
 }
 
-// The same with any number of rows.
-fn upright_large(
-    positions: &[u32],
-    values: &[u32],
-    v: HeldVector,
-    w: usize,
-    h: usize,
-    a: usize,
-    b: usize,
-    buf: &mut [u8],
-)
-    requires { ⌜ Drawable (now positions) (now values) (Line.Straight v) w h × Strip w h a b (length (now buf)) × (v .x ≡ 0) ⌝ }
-    ensures { λ _. ⌜ now (buf .exit) ≡ patched (now (buf .entry)) 0 (strip (lentPixel (now (positions .entry)) (now (values .entry)) (Line.Straight v) w h) w a b) ⌝ }
+// The same for any number of rows.
+fn vertical_large(ramp: &[u32], v: SignedVector, z: Strip, buf: &mut [u8])
+    requires { ⌜ Drawable (now ramp) (Line.Straight v) z (length (now buf)) × (v .x ≡ 0) ⌝ }
+    ensures { λ _. ⌜ now (buf .exit) ≡ patched (now (buf .entry)) 0 (stripOf (now (ramp .entry)) (Line.Straight v) z) ⌝ }
 {
     let mut t = entries();
-    let n = b - a;
-    upright_with(&mut t[..n], positions, values, v, w, h, a, b, buf);
+    let n = z.b - z.a;
+    vertical_with(&mut t[..n], ramp, v, z, buf);
 }
 
-// Draws rows a up to b where the line is upright, from the buffer's start on.
-pub fn draw_upright(
-    positions: &[u32],
-    values: &[u32],
-    v: HeldVector,
-    w: usize,
-    h: usize,
-    a: usize,
-    b: usize,
-    buf: &mut [u8],
-)
-    requires { ⌜ Drawable (now positions) (now values) (Line.Straight v) w h × Strip w h a b (length (now buf)) × (v .x ≡ 0) ⌝ }
-    ensures { λ _. ⌜ now (buf .exit) ≡ patched (now (buf .entry)) 0 (strip (lentPixel (now (positions .entry)) (now (values .entry)) (Line.Straight v) w h) w a b) ⌝ }
+// Draws a strip along a vertical line, from the buffer's start.
+pub fn draw_vertical(ramp: &[u32], v: SignedVector, z: Strip, buf: &mut [u8])
+    requires { ⌜ Drawable (now ramp) (Line.Straight v) z (length (now buf)) × (v .x ≡ 0) ⌝ }
+    ensures { λ _. ⌜ now (buf .exit) ≡ patched (now (buf .entry)) 0 (stripOf (now (ramp .entry)) (Line.Straight v) z) ⌝ }
 {
-    if b - a <= 256 {
-        upright_small(positions, values, v, w, h, a, b, buf);
+    if z.b - z.a <= SMALL_SIDE {
+        vertical_small(ramp, v, z, buf);
     } else {
-        upright_large(positions, values, v, w, h, a, b, buf);
+        vertical_large(ramp, v, z, buf);
     }
 }

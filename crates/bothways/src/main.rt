@@ -2,91 +2,53 @@
 // what the compiler made of them. The numbers come from fixed seeds, so every run draws the same pictures.
 use gradient::Gradient;
 use line::Line;
+use rows::Strip;
 use stops::PlacedStops;
 use tally::Tally;
 ghost use Prim.Native.Nat.{_<_};
 ghost use lib.ListN.{length};
 ghost use Rattle.gradient.specs.Check.{Accepted};
 ghost use Rattle.line.specs.Box.{Box};
-ghost use Rattle.color.specs.Arrays.{Holdable};
-ghost use Rattle.rows.specs.Pixel.{Placed, Drawable, Strip};
+ghost use Rattle.color.specs.Numbers.{Lendable};
+ghost use Rattle.rows.specs.Pixel.{Placed, Rows};
 
 // ---- drawing both ways
 
-fn draw_both(
-    positions: &[u32],
-    values: &[u32],
-    l: Line,
-    w: usize,
-    h: usize,
-    a: usize,
-    b: usize,
-    fast: &mut [u8],
-    plain: &mut [u8],
-)
-    requires { ⌜ Drawable (now positions) (now values) l w h × Strip w h a b (length (now fast)) × Strip w h a b (length (now plain)) ⌝ }
-{
-    strips::draw_strip(positions, values, l, w, h, a, b, fast);
-    rows::draw_each(positions, values, l, w, h, a, b, plain);
+fn no_ramp() -> [u32; ramp::HEAD] {
+    [0u32; ramp::HEAD]
 }
 
-fn draw_stops(
-    l: Line,
-    p: PlacedStops,
-    w: usize,
-    h: usize,
-    a: usize,
-    b: usize,
-    fast: &mut [u8],
-    plain: &mut [u8],
-)
-    requires { ⌜ Placed l w h × Holdable p × (0 < p .count) × Strip w h a b (length (now fast)) × Strip w h a b (length (now plain)) ⌝ }
+fn draw_stops(l: Line, p: PlacedStops, z: Strip, fast: &mut [u8], plain: &mut [u8])
+    requires { ⌜ Placed l (z .w) (z .h) × Lendable p × (0 < p .count) × Rows z (length (now fast)) × Rows z (length (now plain)) ⌝ }
 {
-    let positions = color::positions_of(p);
-    let values = color::values_of(p);
-    let n = p.count as usize;
-    let m = 4 * n;
-    draw_both(&positions[..n], &values[..m], l, w, h, a, b, fast, plain);
+    let mut stops = no_ramp();
+    ramp::set_stops(&mut stops, p);
+    strips::draw(&stops, l, z, fast);
+    rows::draw_each(&stops, l, z, plain);
 }
 
-fn draw_gradient(
-    g: Gradient,
-    w: usize,
-    h: usize,
-    a: usize,
-    b: usize,
-    fast: &mut [u8],
-    plain: &mut [u8],
-)
-    requires { ⌜ Box w h × Accepted g × Strip w h a b (length (now fast)) × Strip w h a b (length (now plain)) ⌝ }
+fn draw_gradient(g: Gradient, z: Strip, fast: &mut [u8], plain: &mut [u8])
+    requires { ⌜ Box (z .w) (z .h) × Accepted g × Rows z (length (now fast)) × Rows z (length (now plain)) ⌝ }
 {
     let shape = g.shape;
-    let l = line::line_of(shape, w, h);
-    let p = placing::place_in_box(g, w, h);
-    draw_stops(l, p, w, h, a, b, fast, plain);
+    let l = line::line_of(shape, z.w, z.h);
+    let p = placing::place_in_box(g, z.w, z.h);
+    draw_stops(l, p, z, fast, plain);
 }
 
 // Draws rows a up to b into both buffers, and compares all of their bytes.
-fn compare(
-    g: Gradient,
-    w: usize,
-    h: usize,
-    a: usize,
-    b: usize,
-    fast: &mut [u8],
-    plain: &mut [u8],
-) -> Tally
-    requires { ⌜ Box w h × Accepted g × Strip w h a b (length (now fast)) × Strip w h a b (length (now plain)) ⌝ }
+fn compare(g: Gradient, z: Strip, fast: &mut [u8], plain: &mut [u8]) -> Tally
+    requires { ⌜ Box (z .w) (z .h) × Accepted g × Rows z (length (now fast)) × Rows z (length (now plain)) ⌝ }
 {
     tally::fill(fast);
     tally::fill(plain);
-    draw_gradient(g, w, h, a, b, fast, plain);
-    let part = if b - a < h { 1 } else { 0 };
+    draw_gradient(g, z, fast, plain);
+    let part = if z.b - z.a < z.h { 1 } else { 0 };
     let n = if words::same(fast, plain) { 0 } else { 1 };
     Tally {
         pictures: 1,
         parts: part,
-        pixels: (w * (b - a)) as u64,
+        pixels: (z.w * (z.b - z.a)) as u64,
         different: n,
         refused: 0,
     }
@@ -111,7 +73,7 @@ fn try_rows(
     if fast.len() < n || plain.len() < n {
         return tally::refusal();
     }
-    compare(g, w, h, a, b, fast, plain)
+    compare(g, Strip { w, h, a, b }, fast, plain)
 }
 
 // One picture of a kind of shape in a sort of box.
@@ -120,10 +82,10 @@ fn try_picture(kind: u32, sort: u32, seed: u32, fast: &mut [u8], plain: &mut [u8
     let s = chance::area_of(sort, seed);
     let w = s.width;
     let h = s.height;
-    if !placing::box_in(w, h) {
+    if !replies::box_in(w, h) {
         return tally::refusal();
     }
-    if gradient::check(g) != 0 {
+    if gradient::check(g) != replies::DONE {
         return tally::refusal();
     }
     let k = chance::rows_of(seed, w, h);

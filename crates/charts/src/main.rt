@@ -31,7 +31,7 @@ fn show(s: &[u8], w: usize, h: usize, buf: &mut [u8]) {
     say(b" ");
     say(s);
     say(b"\n");
-    let r = whole::draw_text(s, w, h, buf);
+    let r = from_text::draw_text(s, w, h, buf);
     io::print_decimal(STDOUT_FILENO, r as u64);
     say(b":");
     say_bytes(buf);

@@ -1,17 +1,17 @@
--- Roots from those of rows before: among four numbers far from the center, among 16 nearer to it, and among 65 anywhere.
+-- Roots from those of the rows above: among four numbers far from the center, among 16 nearer to it, and among 65 anywhere.
 -- Assumes nothing.
 use mathlib.Core.Path.{_≡_, ap}
 use Prim.Native.Nat.{ℕ, _+_, _-_, _*_, _/_, _%_, _≤_, _<_}
 use native.Mathlib.Nat.{mul-le-mul}
 use native.Mathlib.Decide.{decLe}
 use native.Mathlib.Omega.{arith}
-use Rattle.numbers.specs.Held.{offset, unheld}
+use Rattle.numbers.specs.Biased.{bias, unbiased}
 use Rattle.numbers.specs.Fraction.{distance}
 use Rattle.root.specs.Root.{IsRoot}
 use Rattle.root.proofs.Laws.{root-le}
 use Rattle.line.specs.Circle.{from}
 use Rattle.circleroots.proofs.Columns.{from-is}
-use Rattle.line.specs.declared.HeldCenter.{HeldCenter}
+use Rattle.line.specs.declared.BiasedCenter.{BiasedCenter}
 use Rattle.circleroots.specs.Squares.{squareOf, Nearest, Short}
 
 -- p, q and g are roots or a guess; x, y and z are the numbers of three rows, whose second difference is 2·64²
@@ -47,7 +47,7 @@ module _ (p q g x y z : ℕ) (px : p * p ≤ x) (yq : y < (q + 1) * (q + 1)) (e 
     λ far. omega (arith, beside b .1, ap (λ (m : ℕ). m * m) ep, ap (λ (m : ℕ). m * m) eq),
   )
 
--- ---- p and q are the roots of two rows, g one less than the root after them, were all as far apart
+-- ---- p and q are the roots of two rows, and g is one less than the next root would be if all were as far apart
 module _ (p q g x y z : ℕ) (guess : g + p + 1 ≡ 2 * q) (px : p * p ≤ x) (xp : x < (p + 1) * (p + 1)) (qy : q * q ≤ y) (yq : y < (q + 1) * (q + 1))
     (e : x + z ≡ 2 * y + 8192) (some : 383 ≤ q) (xy : x ≤ y + 128 * q + 4096) (yx : y ≤ x + 128 * p + 4096) where
   steps : q ≤ p + 65
@@ -96,21 +96,21 @@ across f g h a b = omega (arith, ap (λ (m : ℕ). f * m) a, ap (λ (m : ℕ). g
 
 -- the second difference of the squares of rows, on either side of the center
 pub squares-bend : (c m l j : ℕ) → m + 1 ≡ l → l + 1 ≡ j → squareOf c m + squareOf c j ≡ 2 * squareOf c l + 8192
-squares-bend c m l j el ej = go (from (unheld c) (64 * m + 32)) (from (unheld c) (64 * l + 32)) (from (unheld c) (64 * j + 32)) (from-is c (64 * m + 32)) (from-is c (64 * l + 32)) (from-is c (64 * j + 32))
+squares-bend c m l j el ej = go (from (unbiased c) (64 * m + 32)) (from (unbiased c) (64 * l + 32)) (from (unbiased c) (64 * j + 32)) (from-is c (64 * m + 32)) (from-is c (64 * l + 32)) (from-is c (64 * j + 32))
   where
-    go : (f g h : ℕ) → f ≡ distance (64 * m + 32 + offset) c → g ≡ distance (64 * l + 32 + offset) c → h ≡ distance (64 * j + 32 + offset) c → f * f + h * h ≡ 2 * (g * g) + 8192
-    go f g h ef eg eh = either (decLe c (64 * m + 32 + offset)) (decLe c (64 * l + 32 + offset)) (decLe c (64 * j + 32 + offset))
+    go : (f g h : ℕ) → f ≡ distance (64 * m + 32 + bias) c → g ≡ distance (64 * l + 32 + bias) c → h ≡ distance (64 * j + 32 + bias) c → f * f + h * h ≡ 2 * (g * g) + 8192
+    go f g h ef eg eh = either (decLe c (64 * m + 32 + bias)) (decLe c (64 * l + 32 + bias)) (decLe c (64 * j + 32 + bias))
       where
-        either : Dec (c ≤ 64 * m + 32 + offset) → Dec (c ≤ 64 * l + 32 + offset) → Dec (c ≤ 64 * j + 32 + offset) → f * f + h * h ≡ 2 * (g * g) + 8192
+        either : Dec (c ≤ 64 * m + 32 + bias) → Dec (c ≤ 64 * l + 32 + bias) → Dec (c ≤ 64 * j + 32 + bias) → f * f + h * h ≡ 2 * (g * g) + 8192
         either (yes a) b d = away f g h (omega arith) (omega arith)
         either (no a) (yes b) d = across f g h (omega arith) (omega arith)
         either (no a) (no b) (yes d) = let k : h * h + f * f ≡ 2 * (g * g) + 8192 = across h g f (omega arith) (omega arith) in omega (arith, k)
         either (no a) (no b) (no d) = let k : h * h + f * f ≡ 2 * (g * g) + 8192 = away h g f (omega arith) (omega arith) in omega (arith, k)
 
--- ---- the nearest of columns or rows, and the first or the last as the farthest
-square-le : (c i k : ℕ) → distance (64 * i + 32 + offset) c ≤ distance (64 * k + 32 + offset) c → squareOf c i ≤ squareOf c k
+-- ---- the nearest of columns or rows; the farthest is the first or the last
+square-le : (c i k : ℕ) → distance (64 * i + 32 + bias) c ≤ distance (64 * k + 32 + bias) c → squareOf c i ≤ squareOf c k
 square-le c i k h =
-    let m : from (unheld c) (64 * i + 32) ≤ from (unheld c) (64 * k + 32) = rw (from-is c (64 * i + 32), from-is c (64 * k + 32)) h in
+    let m : from (unbiased c) (64 * i + 32) ≤ from (unbiased c) (64 * k + 32) = rw (from-is c (64 * i + 32), from-is c (64 * k + 32)) h in
     mul-le-mul m m
 
 pub nearest-first : (c a i : ℕ) → c ≤ 64 * a + 33554432 → a ≤ i → squareOf c a ≤ squareOf c i
@@ -123,17 +123,17 @@ pub nearest-last : (c k i : ℕ) → 64 * k + 33554496 ≤ c → i ≤ k → squ
 nearest-last c k i h p = square-le c k i (omega arith)
 
 pub farthest : (c w k i y b : ℕ) → k + 1 ≡ w → i < w → squareOf c 0 + y < b → squareOf c k + y < b → squareOf c i + y < b
-farthest c w k i y b e p first last = either (decLe c (64 * i + 32 + offset))
+farthest c w k i y b e p first last = either (decLe c (64 * i + 32 + bias))
   where
-    either : Dec (c ≤ 64 * i + 32 + offset) → squareOf c i + y < b
+    either : Dec (c ≤ 64 * i + 32 + bias) → squareOf c i + y < b
     either (yes h) = omega (arith, square-le c i k (omega arith))
     either (no h) = omega (arith, square-le c i 0 (omega arith))
 
--- columns more than k from column m, the nearest of w
+-- columns more than k away from column m, the nearest of w
 module _ (c w m k : ℕ) (h : Nearest c w m) (i : ℕ) where
-  square-from : 64 * k ≤ distance (64 * i + 32 + offset) c → 64 * k * (64 * k) ≤ squareOf c i
+  square-from : 64 * k ≤ distance (64 * i + 32 + bias) c → 64 * k * (64 * k) ≤ squareOf c i
   square-from l =
-      let f : 64 * k ≤ from (unheld c) (64 * i + 32) = rw (from-is c (64 * i + 32)) l in
+      let f : 64 * k ≤ from (unbiased c) (64 * i + 32) = rw (from-is c (64 * i + 32)) l in
       mul-le-mul f f
 
   pub beyond-before : i < m - k → 64 * k * (64 * k) ≤ squareOf c i
@@ -142,11 +142,11 @@ module _ (c w m k : ℕ) (h : Nearest c w m) (i : ℕ) where
   pub beyond-after : i < w → m + k < i → 64 * k * (64 * k) ≤ squareOf c i
   beyond-after p l = square-from (omega (arith, h .after (omega arith)))
 
--- where the nearest column is near in a row, its numbers are below 2^43
-pub near-short : (c : HeldCenter) (w j m : ℕ) → Nearest (c .x) w m → w ≤ 2048 → squareOf (c .x) m + squareOf (c .y) j < 17842176 → Short c w j
+-- where the nearest pixel of a row is less than 66 px away, the squared distances of the row are below 2^43
+pub near-short : (c : BiasedCenter) (w j m : ℕ) → Nearest (c .x) w m → w ≤ 2048 → squareOf (c .x) m + squareOf (c .y) j < 17842176 → Short c w j
 near-short c w j m h width near i p =
-    let f : ℕ = from (unheld (c .x)) (64 * m + 32) in
+    let f : ℕ = from (unbiased (c .x)) (64 * m + 32) in
     let a : f ≤ 4224 = root-le 1 (f * f) f 4224 (omega arith) (omega arith) in
-    let b : from (unheld (c .x)) (64 * i + 32) ≤ 135296 =
-    rw (from-is (c .x) (64 * i + 32)) (let a′ : distance (64 * m + 32 + offset) (c .x) ≤ 4224 = rw (← from-is (c .x) (64 * m + 32)) a in omega (arith, h .within)) in
+    let b : from (unbiased (c .x)) (64 * i + 32) ≤ 135296 =
+    rw (from-is (c .x) (64 * i + 32)) (let a′ : distance (64 * m + 32 + bias) (c .x) ≤ 4224 = rw (← from-is (c .x) (64 * m + 32)) a in omega (arith, h .within)) in
     omega (arith, mul-le-mul b b)

@@ -21,9 +21,9 @@ use Rattle.tokens.specs.declared.Unit.{Unit}
 use Rattle.tokens.specs.declared.Unit.the-variants as U
 use Rattle.tokens.specs.Number.{exact, cut}
 use Rattle.tokens.proofs.Cut.{length-cut, radius-cut, percentage-cut, length-kept, radius-kept, percentage-kept}
-use Rattle.heads.specs.Direction.{horizontalOf, verticalOf}
+use Rattle.directions.specs.Direction.{horizontalOf, verticalOf}
 use Rattle.text.proofs.Whole.{map-gap}
-use Rattle.heads.proofs.Cut.{as-cut, cutDirection, direction-in-cut, direction-kept}
+use Rattle.directions.proofs.Cut.{as-cut, cutDirection, direction-in-cut, direction-kept}
 use Rattle.circles.specs.declared.Part.{Part}
 use Rattle.circles.specs.declared.Part.the-variants as P
 use Rattle.circles.specs.declared.Axis.{Axis}

@@ -23,7 +23,7 @@ use Rattle.circles.specs.declared.Axis.the-variants as A
 use Rattle.circles.specs.declared.Place.{Place}
 use Rattle.circles.specs.declared.Pair.{Pair}
 use Rattle.circles.specs.declared.Pair.the-variants as Two
-use Rattle.heads.specs.Direction.{horizontalOf, verticalOf}
+use Rattle.directions.specs.Direction.{horizontalOf, verticalOf}
 
 -- a length or a percentage
 abbrev pub asCoordinate : ℤ → Unit → List ℕ → Read Coordinate

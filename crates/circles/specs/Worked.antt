@@ -13,7 +13,7 @@ use Rattle.gradient.specs.declared.Coordinate.{Coordinate}
 use Rattle.gradient.specs.declared.Coordinate.the-variants as C
 use Rattle.gradient.specs.declared.Shape.{Shape}
 use Rattle.gradient.specs.declared.Shape.the-variants as Sh
-use Rattle.heads.specs.Direction.{horizontalOf, verticalOf}
+use Rattle.directions.specs.Direction.{horizontalOf, verticalOf}
 use Rattle.circles.specs.declared.Place.{Place}
 use Rattle.circles.specs.Position.{coordinateOf, partOf, percent, middle, place, secondOf, positionOf}
 use Rattle.circles.specs.Circle.{extentOf, lengthOf, sizeOf, circleFirst, sizeFirst, circleOf, atOf, radialOf}

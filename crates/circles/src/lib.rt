@@ -1,12 +1,12 @@
 // The circle of a radial gradient, read at a cursor.
+use directions::HorizontalRead;
+use directions::VerticalRead;
 use gradient::Coordinate;
 use gradient::Extent;
 use gradient::Horizontal;
 use gradient::Shape;
 use gradient::Size;
 use gradient::Vertical;
-use heads::HorizontalRead;
-use heads::VerticalRead;
 use text::Cursor;
 use text::Match;
 use tokens::NumberRead;
@@ -94,10 +94,10 @@ fn read_coordinate(s: &[u8], c: Cursor) -> CoordinateRead
 fn read_part(s: &[u8], c: Cursor) -> PartRead
     ensures { λ r. ⌜ viewPart (now (s .entry)) r ≡ partOf cut (drop (c .at) (now (s .entry))) ⌝ }
 {
-    if let HorizontalRead::Got(a, k) = heads::read_horizontal(s, c) {
+    if let HorizontalRead::Got(a, k) = directions::read_horizontal(s, c) {
         return PartRead::Got(Part::Across(a), k);
     }
-    if let VerticalRead::Got(v, k) = heads::read_vertical(s, c) {
+    if let VerticalRead::Got(v, k) = directions::read_vertical(s, c) {
         return PartRead::Got(Part::Down(v), k);
     }
     if let Match::Past(k) = text::keyword(s, c, b"center") {

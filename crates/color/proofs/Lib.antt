@@ -3,5 +3,5 @@ pub mod Place
 pub mod Gap
 pub mod Accuracy
 pub mod Lent
-pub mod Arrays
+pub mod Numbers
 pub mod Types

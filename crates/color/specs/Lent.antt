@@ -1,10 +1,10 @@
--- Placed stops as two lent slices of numbers: for each stop its position, held, and four numbers for its premultiplied channels.
+-- Placed stops as two lent slices of numbers: for each stop its position, biased, and four numbers for its premultiplied channels.
 -- Assumes nothing.
 use mathlib.Core.List.{List, [], _∷_}
 use Prim.Native.Nat.{ℕ, suc, _+_, _*_, _≤_, _<_}
 use lib.Dec.{leb}
 use lib.ListN.{length, getD}
-use Rattle.numbers.specs.Held.{unheld}
+use Rattle.numbers.specs.Biased.{unbiased}
 use Rattle.numbers.specs.Fraction.{Fraction, _⁄_}
 use Rattle.color.specs.Stop.{Channel, Stop, lastPlace}
 use Rattle.color.specs.Byte.{channels}
@@ -16,7 +16,7 @@ valuesAt vs i = channels (getD vs (4 * i) 0) (getD vs (4 * i + 1) 0) (getD vs (4
 -- the stops, the first of them with number i
 unfoldable pub stopsFrom : ℕ → List ℕ → List ℕ → List Stop
 stopsFrom i [] vs = []
-stopsFrom i (p ∷ ps) vs = record { value = valuesAt vs i; position = unheld p } ∷ stopsFrom (suc i) ps vs
+stopsFrom i (p ∷ ps) vs = record { value = valuesAt vs i; position = unbiased p } ∷ stopsFrom (suc i) ps vs
 
 abbrev pub stopsOf : List ℕ → List ℕ → List Stop
 stopsOf ps vs = stopsFrom 0 ps vs
@@ -25,13 +25,18 @@ stopsOf ps vs = stopsFrom 0 ps vs
 abbrev pub Small : List ℕ → Type 0
 Small vs = (i : ℕ) → getD vs i 0 ≤ 65025
 
--- what the code asks of the slices: at least one stop, and four numbers for each; the positions may be in any order
+-- no position is below the one before it
+abbrev pub Rising : List ℕ → Type 0
+Rising ps = (i : ℕ) → i + 1 < length ps → getD ps i 0 ≤ getD ps (i + 1) 0
+
+-- what the code asks of the slices: at least one stop, four numbers for each, and positions that never fall
 pub record Lent (ps vs : List ℕ) : Type 0 where
   pub some : 0 < length ps
   pub four : 4 * length ps ≤ length vs
   pub small : Small vs
+  pub rising : Rising ps
 
--- the place of the last position at or below `at`, all of them held
+-- the place of the last position at or below `at`, all of them biased
 abbrev pub lastUpTo : List ℕ → ℕ → ℕ
 lastUpTo ps at = lastPlace (λ (p : ℕ). leb p at) ps
 
@@ -46,6 +51,10 @@ pub record Between (ps vs : List ℕ) (i at : ℕ) : Type 0 where
 abbrev pub mix : ℕ → ℕ → ℕ → ℕ → Fraction
 mix p q x y = (p * y + q * x) ⁄ (255 * (x + y))
 
+-- 2 ^ 54: one, in fixed point
+abbrev pub scale : ℕ
+scale = 18014398509481984
+
 -- r is 2^54 / d or less
 abbrev pub Inverse : ℕ → ℕ → Type 0
-Inverse d r = r * d ≤ 18014398509481984
+Inverse d r = r * d ≤ scale

@@ -2,5 +2,5 @@ pub mod Stop
 pub mod Byte
 pub mod Accuracy
 pub mod Lent
-pub mod Arrays
+pub mod Numbers
 pub mod Worked

@@ -1,20 +1,21 @@
-// The color of a location on the gradient line, from placed stops that are lent as two slices of numbers, and these numbers of placed stops.
-// A position, and a location, is held as the number 2^25 above it. A stop has four values, its premultiplied channels.
+// The color of a location on the gradient line, from placed stops that are lent as two slices of numbers, and how these slices are made.
+// Positions and locations are biased. A stop has four values, its premultiplied channels.
 use gradient::Color;
-use gradient::Gradient;
-use numbers::hold;
+use numbers::biased;
 use stops::PlacedStops;
 ghost use mathlib.Core.Path.{_≡_};
-ghost use mathlib.Core.List.{_++_, []};
+ghost use mathlib.Core.List.{[]};
 ghost use Prim.Native.Nat.{_+_, _-_, _*_, _≤_, _<_, _/_, _^_};
-ghost use lib.ListN.{length, getD, take};
-ghost use Rattle.numbers.specs.Held.{unheld};
+ghost use lib.ListN.{length, getD};
+ghost use Rattle.numbers.specs.Biased.{unbiased};
 ghost use Rattle.numbers.specs.Fraction.{_⁄_, nearest};
+ghost use Rattle.stops.specs.Bytes.{AllBytes};
 ghost use Rattle.stops.specs.Check.{placedOf};
+ghost use Rattle.picture.specs.Picture.{patched};
 ghost use Rattle.color.specs.Stop.{Channel};
 ghost use Rattle.color.specs.Byte.{rgba, colorAt};
-ghost use Rattle.color.specs.Lent.{Small, Lent, Between, stopsOf, valuesAt, lastUpTo, mix, Inverse};
-ghost use Rattle.color.specs.Arrays.{Holdable, positionsOf, colorsOf, gradientColors, fourOf, Values};
+ghost use Rattle.color.specs.Lent.{Small, Lent, Between, stopsOf, valuesAt, lastUpTo, mix, scale, Inverse};
+ghost use Rattle.color.specs.Numbers.{Lendable, positionsOf, fourOf, valuesOf};
 
 // A pixel's four bytes, premultiplied.
 pub struct Rgba {
@@ -26,13 +27,16 @@ pub struct Rgba {
 
 // ---- the color of a location
 
+// One, in fixed point with 54 binary digits after the point.
+pub const ONE: u64 = 18014398509481984;
+
 // The place, counted from 1, of the last position at or below `at`; 0 where none is.
-pub fn last_up_to(positions: &[u32], at: u32) -> usize
+pub fn last_up_to(positions: &[u32], at: u64) -> usize
     ensures { λ r. ⌜ r ≡ lastUpTo (now (positions .entry)) at ⌝ }
 {
     let mut place = positions.len();
     while 0 < place {
-        if positions[place - 1] <= at {
+        if (positions[place - 1] as u64) <= at {
             return place;
         }
         place -= 1;
@@ -51,9 +55,9 @@ fn stop_byte(p: u32) -> u8
 // 2^54 over what a mix between stops that are g units apart is divided by, rounded down.
 pub fn inverse_of(g: u64) -> u64
     requires { ⌜ (0 < g) × (g < 2 ^ 34) ⌝ }
-    ensures { λ r. ⌜ (r ≡ 18014398509481984 / (510 * g)) × Inverse (510 * g) r ⌝ }
+    ensures { λ r. ⌜ (r ≡ scale / (510 * g)) × Inverse (510 * g) r ⌝ }
 {
-    18014398509481984 / (510 * g)
+    ONE / (510 * g)
 }
 
 // n / d: by d's inverse where that is near enough, else by division.
@@ -61,7 +65,7 @@ fn quotient(n: u64, d: u64, inverse: u64) -> u64
     requires { ⌜ (0 < d) × (d < 2 ^ 48) × (n ≤ 256 * d) × Inverse d inverse ⌝ }
     ensures { λ r. ⌜ r ≡ n / d ⌝ }
 {
-    let k = n * inverse / 18014398509481984;
+    let k = n * inverse / ONE;
     let e = k * d;
     if e <= n {
         if n < e + d {
@@ -128,18 +132,20 @@ fn mix_stops(values: &[u32], i: usize, x: u32, y: u32) -> Rgba
 }
 
 // The bytes at a location between stop i and the next.
-fn between(positions: &[u32], values: &[u32], i: usize, at: u32) -> Rgba
+fn between(positions: &[u32], values: &[u32], i: usize, at: u64) -> Rgba
     requires { ⌜ Between (now positions) (now values) i at ⌝ }
     ensures { λ r. ⌜ r ≡ rgba (λ (c : Channel). nearest (mix (valuesAt (now (values .entry)) i c) (valuesAt (now (values .entry)) (i + 1) c)
         (at - getD (now (positions .entry)) i 0) (getD (now (positions .entry)) (i + 1) 0 - at))) ⌝ }
 {
-    mix_stops(values, i, at - positions[i], positions[i + 1] - at)
+    let x = at - (positions[i] as u64);
+    let y = (positions[i + 1] as u64) - at;
+    mix_stops(values, i, x as u32, y as u32)
 }
 
-// The color at a location, held, of the placed stops that the two slices hold.
-pub fn color_at(positions: &[u32], values: &[u32], at: u32) -> Rgba
+// The color at a location, biased, of the placed stops that the two slices hold.
+pub fn color_at(positions: &[u32], values: &[u32], at: u64) -> Rgba
     requires { ⌜ Lent (now positions) (now values) ⌝ }
-    ensures { λ r. ⌜ r ≡ colorAt (stopsOf (now (positions .entry)) (now (values .entry))) (unheld at) ⌝ }
+    ensures { λ r. ⌜ r ≡ colorAt (stopsOf (now (positions .entry)) (now (values .entry))) (unbiased at) ⌝ }
 {
     let place = last_up_to(positions, at);
     if place == 0 {
@@ -151,70 +157,49 @@ pub fn color_at(positions: &[u32], values: &[u32], at: u32) -> Rgba
     between(positions, values, place - 1, at)
 }
 
-// ---- the numbers of placed stops
+// ---- placed stops as lent numbers
 
-// The positions of the stops, held, in the first places.
-pub fn positions_of(p: PlacedStops) -> [u32; 16]
-    requires { ⌜ Holdable p ⌝ }
-    ensures { λ r. ⌜ take (p .count) r ≡ positionsOf (placedOf p) ⌝ }
+// Stores the positions of the stops from `at` on.
+pub fn store_positions(words: &mut [u32], at: usize, p: PlacedStops)
+    requires { ⌜ Lendable p × (at + p .count ≤ length (now words)) ⌝ }
+    ensures { λ _. ⌜ now (words .exit) ≡ patched (now (words .entry)) at (positionsOf (placedOf p)) ⌝ }
 {
     let n = p.count as usize;
-    let mut positions = [0u32; 16];
     let mut i: usize = 0;
     while i < n {
         let s = p.stops[i];
-        positions[i] = hold(s.position);
+        words[at + i] = biased(s.position);
         i += 1;
     }
-    positions
 }
 
 fn premultiply(c: u8, a: u8) -> u32
-    ensures { λ r. ⌜ (r ≡ c * a) × (r ≤ 65025) ⌝ }
+    ensures { λ r. ⌜ r ≡ c * a ⌝ }
 {
     (c as u32) * (a as u32)
 }
 
-// Stores the values of stop i.
-fn store(values: &mut [u32], i: usize, c: Color)
-    requires { ⌜ (4 * i + 3 < length (now values)) × Small (now values) ⌝ }
-    ensures { λ _. ⌜ (take (4 * (i + 1)) (now (values .exit)) ≡ take (4 * i) (now (values .entry)) ++ fourOf c []) × Small (now (values .exit)) ⌝ }
+// Stores the four values of a color from `at` on.
+fn store_color(words: &mut [u32], at: usize, c: Color)
+    requires { ⌜ at + 4 ≤ length (now words) ⌝ }
+    ensures { λ _. ⌜ now (words .exit) ≡ patched (now (words .entry)) at (fourOf c []) ⌝ }
 {
-    let k = 4 * i;
-    values[k] = premultiply(c.red, c.alpha);
-    values[k + 1] = premultiply(c.green, c.alpha);
-    values[k + 2] = premultiply(c.blue, c.alpha);
-    values[k + 3] = premultiply(255, c.alpha);
+    words[at] = premultiply(c.red, c.alpha);
+    words[at + 1] = premultiply(c.green, c.alpha);
+    words[at + 2] = premultiply(c.blue, c.alpha);
+    words[at + 3] = premultiply(255, c.alpha);
 }
 
-// The premultiplied channels of the stops, four numbers to a stop, in the first places.
-pub fn values_of(p: PlacedStops) -> [u32; 64]
-    requires { ⌜ p .count ≤ 16 ⌝ }
-    ensures { λ r. ⌜ Values (p .count) (colorsOf (placedOf p)) r ⌝ }
+// Stores the values of the stops from `at` on.
+pub fn store_values(words: &mut [u32], at: usize, p: PlacedStops)
+    requires { ⌜ (p .count ≤ 16) × (at + 4 * p .count ≤ length (now words)) ⌝ }
+    ensures { λ _. ⌜ (now (words .exit) ≡ patched (now (words .entry)) at (valuesOf (placedOf p))) × AllBytes (placedOf p) ⌝ }
 {
     let n = p.count as usize;
-    let mut values = [0u32; 64];
     let mut i: usize = 0;
     while i < n {
         let s = p.stops[i];
-        store(&mut values, i, s.color);
+        store_color(words, at + 4 * i, s.color);
         i += 1;
     }
-    values
-}
-
-// The same of the stops of a gradient.
-pub fn gradient_values(g: Gradient) -> [u32; 64]
-    requires { ⌜ g .count ≤ 16 ⌝ }
-    ensures { λ r. ⌜ Values (g .count) (gradientColors g) r ⌝ }
-{
-    let n = g.count as usize;
-    let mut values = [0u32; 64];
-    let mut i: usize = 0;
-    while i < n {
-        let s = g.stops[i];
-        store(&mut values, i, s.color);
-        i += 1;
-    }
-    values
 }

@@ -1,15 +1,15 @@
--- Laws for the crates above: the order of replies, what a gradient that is accepted holds, and what a range says of a number.
+-- Laws for the crates above: what a gradient that is accepted holds, and what a range says of a number.
 -- Assumes nothing.
 use mathlib.Core.Path.{_≡_, refl}
-use mathlib.Core.Bool.{Bool, true, false, and-eq-true-iff}
-use Prim.Native.Nat.{ℕ, zero, suc, _%_, _≤_, _<_}
+use mathlib.Core.Bool.{true, and-eq-true-iff}
+use Prim.Native.Nat.{ℕ, _%_, _≤_, _<_}
 use native.Mathlib.Omega.{arith}
 use lib.IntN.{ℤ, natAbs}
 use lib.ListN.{length, getD, length-take}
 use lib.Seq.{getD-take}
 use lib.Signed.{nonNeg}
 use borrow.Author.Tests.{ltb-false, le-ltb, leb-true, eqb-true, not-false}
-use Rattle.gradient.specs.Replies.{given, _orElse_}
+use Rattle.replies.proofs.Laws.{orElse-zero, given-zero}
 use Rattle.gradient.specs.Lists.{all}
 use Rattle.gradient.specs.Blank.{blankStop}
 use Rattle.gradient.specs.Range.{lengthIn, radiusIn, percentageIn, angleIn, coordinateIn, directionIn, sizeIn, shapeIn, stopIn}
@@ -20,29 +20,6 @@ use Rattle.gradient.specs.declared.Coordinate.{Coordinate}
 use Rattle.gradient.specs.declared.Shape.the-variants.{Linear, Circle}
 use Rattle.gradient.specs.declared.Gradient.{Gradient}
 use Rattle.gradient.proofs.Lists.{all-first, all-from}
-
--- ---- replies: no reply, the first one, the next one
-pub orElse-zero : (a b : ℕ) → a orElse b ≡ 0 → (a ≡ 0) × (b ≡ 0)
-orElse-zero zero b e = (refl, e)
-orElse-zero (suc a) b e = absurd (omega arith)
-
-pub orElse-first : {a r : ℕ} (b : ℕ) → r ≡ a → (r ≡ 0 → ⊥) → r ≡ a orElse b
-orElse-first {a = zero} b e n = absurd (n e)
-orElse-first {a = suc a} b e n = e
-
-pub orElse-next : {a b r : ℕ} → a ≡ 0 → r ≡ b → r ≡ a orElse b
-orElse-next e k = rw e k
-
--- the same for a row of a table
-pub given-zero : (t : Bool) (n : ℕ) → given t (suc n) ≡ 0 → t ≡ false
-given-zero true n e = absurd (omega arith)
-given-zero false n e = refl
-
-pub given-first : {t : Bool} {n : ℕ} (b : ℕ) → t ≡ true → suc n ≡ given t (suc n) orElse b
-given-first b e = rw e
-
-pub given-next : {t : Bool} (n : ℕ) {b r : ℕ} → t ≡ false → r ≡ b → r ≡ given t n orElse b
-given-next n e k = rw e k
 
 -- ---- the gradients that are accepted
 each-in : (g : Gradient) → stopsIn g ≡ true → (i : ℕ) → i < g .count → stopIn (getD (g .stops) i blankStop) ≡ true

@@ -7,7 +7,7 @@ use mathlib.Core.List.{List}
 use Prim.Native.Nat.{ℕ, _≤_, _<_}
 use lib.Dec.{ltb}
 use lib.ListN.{getD, take, drop}
-use Rattle.gradient.specs.Replies.{given, _orElse_}
+use Rattle.replies.specs.Replies.{malformed, outOfRange, tooManyStops, given, _orElse_}
 use Rattle.gradient.specs.Lists.{all}
 use Rattle.gradient.specs.Blank.{blankStop, isBlank}
 use Rattle.gradient.specs.Range.{shapeIn, stopIn}
@@ -30,11 +30,11 @@ stopsIn g = all stopIn (stopsOf g)
 -- fewer than two stops or an unused place that is not blank: 4; a number out of its range: 5; more than 16 stops: 6
 unfoldable pub checkOf : Gradient → ℕ
 checkOf g =
-    given (ltb (g .count) 2) 4
-    orElse given (not (blankPast g)) 4
-    orElse given (not (shapeIn (g .shape))) 5
-    orElse given (not (stopsIn g)) 5
-    orElse given (ltb 16 (g .count)) 6
+    given (ltb (g .count) 2) malformed
+    orElse given (not (blankPast g)) malformed
+    orElse given (not (shapeIn (g .shape))) outOfRange
+    orElse given (not (stopsIn g)) outOfRange
+    orElse given (ltb 16 (g .count)) tooManyStops
 
 -- what the reply 0 says of a gradient
 pub record Accepted (g : Gradient) : Type 0 where

@@ -1,4 +1,3 @@
-pub mod Replies
 pub mod Lists
 pub mod Blank
 pub mod Bytes

@@ -1,5 +1,9 @@
 // The gradient as a value, and which values are gradients. Document 01 calls it a chart. Every number is in thousandths, as the text gives it.
 use numbers::magnitude;
+use replies::DONE;
+use replies::MALFORMED;
+use replies::OUT_OF_RANGE;
+use replies::TOO_MANY_STOPS;
 ghost use mathlib.Core.Path.{_≡_};
 ghost use Rattle.gradient.specs.Blank.{blankStop, blankGradient, isClear, isAuto, isBlank};
 ghost use Rattle.gradient.specs.Range.{lengthIn, radiusIn, percentageIn, angleIn, positionIn, coordinateIn, directionIn, sizeIn, shapeIn};
@@ -245,11 +249,11 @@ pub fn check(g: Gradient) -> u32
     ensures { λ r. ⌜ r ≡ checkOf g ⌝ }
 {
     if g.count < 2 || !blank_past(g) {
-        return 4;
+        return MALFORMED;
     }
     let s = g.shape;
     if !shape_in(s) || !stops_in(g) {
-        return 5;
+        return OUT_OF_RANGE;
     }
-    if g.count <= 16 { 0 } else { 6 }
+    if g.count <= 16 { DONE } else { TOO_MANY_STOPS }
 }

@@ -37,7 +37,7 @@ use Rattle.gradient.specs.declared.Gradient.{Gradient}
 use Rattle.gradient.proofs.Lists.{all-at}
 use Rattle.gradient.proofs.Laws.{accepted, length-range, radius-range, percentage-range, angle-range, linear-range, circle-range}
 use Rattle.layout.specs.Words.{colorWord, positionUnit, positionWord, directionCode, angleWord, sizeExtent, sizeUnit, sizeWord, coordinateUnit, coordinateWord, headWords, layoutOf}
-use Rattle.layout.specs.Taken.{colorOf, positionOf, stopOf, directionOf, sizeOf, coordinateOf, shapeOf, shapeAt, stopAt, gradientAt}
+use Rattle.layout.specs.Taken.{colorOf, positionAt, stopOf, directionOf, sizeOf, coordinateOf, shapeOf, shapeAt, stopAt, gradientAt}
 use Rattle.layout.proofs.Places.{head-word, stop-word}
 use Rattle.layout.proofs.Parts.{gradient-read}
 
@@ -63,7 +63,7 @@ color-back c h =
         → _≡_ {A = Color} (record { red = p; green = q; blue = r; alpha = s }) (record { red = x; green = y; blue = z; alpha = w })
     same e₁ e₂ e₃ e₄ = cc
 
-position-back : (p : Position) → positionIn p ≡ true → positionOf (positionUnit p) (positionWord p) ≡ p
+position-back : (p : Position) → positionIn p ≡ true → positionAt (positionUnit p) (positionWord p) ≡ p
 position-back P.Auto e = refl
 position-back (P.Length t) e = ap P.Length (length-back t e)
 position-back (P.Percentage t) e = ap P.Percentage (percentage-back t e)

@@ -5,13 +5,13 @@ use mathlib.Core.List.{List}
 use Prim.Native.Nat.{ℕ}
 use lib.ListN.{length}
 use borrow.Author.Tests.{not-false}
+use Rattle.replies.proofs.Laws.{orElse-zero, given-zero}
 use Rattle.words.specs.Word.{wordBytes}
 use Rattle.words.proofs.Each.{each-length}
 use Rattle.words.proofs.Equal.{equal-refl, equal-yes}
 use Rattle.gradient.specs.Bytes.{StopBytes}
 use Rattle.gradient.specs.Check.{checkOf}
 use Rattle.gradient.specs.declared.Gradient.{Gradient}
-use Rattle.gradient.proofs.Laws.{orElse-zero, given-zero}
 use Rattle.layout.specs.Words.{layoutOf}
 use Rattle.layout.specs.Taken.{gradientAt, takenReply, takenOf}
 use Rattle.layout.specs.declared.Taken.{Taken}

@@ -6,12 +6,13 @@ use mathlib.Core.List.{List, append-nil}
 use Prim.Native.Nat.{ℕ}
 use lib.Dec.{eqb}
 use borrow.Author.Tests.{ne-eqb}
+use Rattle.replies.specs.Replies.{malformed}
+use Rattle.replies.proofs.Laws.{given-first, given-next}
 use Rattle.picture.specs.Picture.{padded}
 use Rattle.words.specs.Word.{equal}
 use Rattle.gradient.specs.Blank.{blankGradient}
 use Rattle.gradient.specs.Check.{checkOf}
 use Rattle.gradient.specs.declared.Gradient.{Gradient}
-use Rattle.gradient.proofs.Laws.{given-first, given-next}
 use Rattle.layout.specs.Words.{layoutOf}
 use Rattle.layout.specs.Taken.{gradientAt, takenReply, takenOf}
 use Rattle.layout.specs.declared.Taken.{Taken}
@@ -33,7 +34,7 @@ module _ (s : List ℕ) {g : Gradient} {own : List ℕ} {b : Bool} (read : g ≡
   differs = ap not (sym (same ∙ ap (equal s) own-layout))
 
   -- another slice
-  pub other : not b ≡ true → {k : Gradient} → k ≡ blankGradient → _≡_ {A = Taken} (record { reply = 4; gradient = k }) (takenOf s)
+  pub other : not b ≡ true → {k : Gradient} → k ≡ blankGradient → _≡_ {A = Taken} (record { reply = malformed; gradient = k }) (takenOf s)
   unfolding takenReply
   other n e = answer s (given-first _ (differs ∙ n)) e
 
@@ -41,7 +42,7 @@ module _ (s : List ℕ) {g : Gradient} {own : List ℕ} {b : Bool} (read : g ≡
   module _ {r : ℕ} (is : not b ≡ false) (check : r ≡ checkOf g) where
     own-reply : r ≡ takenReply s
     unfolding takenReply
-    own-reply = given-next 4 (differs ∙ is) (check ∙ ap checkOf read)
+    own-reply = given-next malformed (differs ∙ is) (check ∙ ap checkOf read)
 
     -- 0
     pub gave : r ≡ 0 → _≡_ {A = Taken} (record { reply = 0; gradient = g }) (takenOf s)

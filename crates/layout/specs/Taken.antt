@@ -7,8 +7,8 @@ use Prim.Native.Nat.{ℕ, _+_, _*_, _/_, _%_}
 use lib.Dec.{eqb}
 use mir.Syntax.{w32}
 use mir.Val.{toZ}
+use Rattle.replies.specs.Replies.{malformed, given, _orElse_}
 use Rattle.words.specs.Word.{wordAt, upTo, equal}
-use Rattle.gradient.specs.Replies.{given, _orElse_}
 use Rattle.gradient.specs.Blank.{blankGradient}
 use Rattle.gradient.specs.Check.{checkOf}
 use Rattle.gradient.specs.declared.Color.{Color}
@@ -36,11 +36,11 @@ use Rattle.layout.specs.Words.{layoutOf}
 abbrev pub colorOf : ℕ → Color
 colorOf w = record { red = w % 256; green = w / 256 % 256; blue = w / 65536 % 256; alpha = w / 16777216 }
 
-abbrev pub positionOf : ℕ → ℕ → Position
-positionOf u n = cond (eqb u 1) (P.Length (toZ w32 n)) (cond (eqb u 2) (P.Percentage (toZ w32 n)) P.Auto)
+abbrev pub positionAt : ℕ → ℕ → Position
+positionAt u n = cond (eqb u 1) (P.Length (toZ w32 n)) (cond (eqb u 2) (P.Percentage (toZ w32 n)) P.Auto)
 
 abbrev pub stopOf : ℕ → ℕ → ℕ → Stop
-stopOf w u n = record { color = colorOf w; position = positionOf u n }
+stopOf w u n = record { color = colorOf w; position = positionAt u n }
 
 -- ---- a direction, of its code and its angle; another code reads as an angle
 abbrev pub directionOf : ℕ → ℕ → Direction
@@ -84,7 +84,7 @@ gradientAt s = record { shape = shapeAt s; count = wordAt s 0; stops = upTo 16 (
 
 -- ---- the reply: 4 where it is not a layout, then the gradient's own
 unfoldable pub takenReply : List ℕ → ℕ
-takenReply s = given (not (equal s (layoutOf (gradientAt s)))) 4 orElse checkOf (gradientAt s)
+takenReply s = given (not (equal s (layoutOf (gradientAt s)))) malformed orElse checkOf (gradientAt s)
 
 -- the gradient where the reply is 0, else the blank one
 unfoldable pub takenOf : List ℕ → Taken

@@ -11,6 +11,8 @@ use gradient::Side;
 use gradient::Size;
 use gradient::Stop;
 use gradient::Vertical;
+use replies::DONE;
+use replies::MALFORMED;
 use words::bits;
 use words::put_word;
 use words::signed;
@@ -21,7 +23,10 @@ ghost use lib.ListN.{length};
 ghost use Rattle.picture.specs.Picture.{patched, padded};
 ghost use Rattle.words.specs.Word.{wordBytes, each};
 ghost use Rattle.layout.specs.Words.{colorWord, positionUnit, positionWord, stopWords, sideCode, cornerCode, directionCode, angleWord, extentCode, sizeExtent, sizeUnit, sizeWord, coordinateUnit, coordinateWord, headWords, layoutOf};
-ghost use Rattle.layout.specs.Taken.{colorOf, positionOf, stopOf, directionOf, extentOf, sizeOf, coordinateOf, shapeAt, stopAt, gradientAt, takenOf};
+ghost use Rattle.layout.specs.Taken.{colorOf, positionAt, stopOf, directionOf, extentOf, sizeOf, coordinateOf, shapeAt, stopAt, gradientAt, takenOf};
+
+// The bytes of a gradient.
+pub const SIZE: usize = 320;
 
 // The reply to a slice, and the gradient that it holds; a blank one after a refusal.
 pub struct Taken {
@@ -238,7 +243,7 @@ pub fn write(g: Gradient, out: &mut [u8])
     let stops = g.stops;
     put_head(out, head_words(g.count, s));
     put_stops(out, stops);
-    picture::clear_from(out, 320);
+    picture::clear_from(out, SIZE);
 }
 
 // ---- reading, whatever stands there
@@ -255,7 +260,7 @@ fn color_of(w: u32) -> Color
 }
 
 fn position_of(u: u32, n: u32) -> Position
-    ensures { λ r. ⌜ r ≡ positionOf u n ⌝ }
+    ensures { λ r. ⌜ r ≡ positionAt u n ⌝ }
 {
     match u {
         1 => Position::Length(signed(n)),
@@ -362,18 +367,18 @@ pub fn take(s: &[u8]) -> Taken
     ensures { λ r. ⌜ r ≡ takenOf (now (s .entry)) ⌝ }
 {
     let g = gradient_at(s);
-    let mut own = [0u8; 320];
+    let mut own = [0u8; SIZE];
     write(g, &mut own);
     if !words::same(s, &own) {
         return Taken {
-            reply: 4,
+            reply: MALFORMED,
             gradient: gradient::blank_gradient(),
         };
     }
     let reply = gradient::check(g);
-    if reply == 0 {
+    if reply == DONE {
         return Taken {
-            reply: 0,
+            reply: DONE,
             gradient: g,
         };
     }

@@ -6,9 +6,9 @@ use native.Mathlib.Nat.{mul-le-mul, mul-le-mul-right, lt-of-le-of-lt}
 use native.Mathlib.Decide.{decLe}
 use native.Mathlib.Omega.{arith}
 use lib.IntN.{ℤ, pos, negsuc, natAbs, negℤ, negℤ-negℤ, _*ℤ_}
-use Rattle.numbers.specs.Held.{offset, held, unheld}
-use Rattle.numbers.proofs.Integers.{diff-of, diff-abs, hold-is}
-use Rattle.numbers.proofs.Signed.{held-high}
+use Rattle.numbers.specs.Biased.{bias, biased, unbiased}
+use Rattle.numbers.proofs.Integers.{diff-of, diff-abs, biased-is}
+use Rattle.numbers.proofs.Signed.{biased-high}
 use Rattle.numbers.proofs.Units.{length-bound, percentage-bound}
 use Rattle.root.specs.Root.{IsRoot, rootOf}
 use Rattle.root.proofs.Laws.{root-is, root-most}
@@ -32,11 +32,11 @@ use Rattle.line.specs.Vector.{Vector, vector, inQuadrant, sineZ, quarter
 use Rattle.line.specs.Location.{locationBy, squared, norm, reach, lineLength, along, lineRule}
 use Rattle.line.specs.Circle.{Center, coordinateUnits, centerOf, from, toCorner, ofCorners, radiusOf, circleRule}
 use Rattle.line.specs.Line.{lengthOf, ruleOf}
-use Rattle.line.specs.declared.HeldVector.{HeldVector}
-use Rattle.line.specs.declared.HeldCenter.{HeldCenter}
+use Rattle.line.specs.declared.SignedVector.{SignedVector}
+use Rattle.line.specs.declared.BiasedCenter.{BiasedCenter}
 use Rattle.line.specs.declared.Line.{Line}
 use Rattle.line.specs.declared.Line.the-variants as L
-use Rattle.line.specs.Held.{signed, isLeft, isTop, oddOf, vectorIn, Bounded, centerIn, Near, Sound, ruleIn}
+use Rattle.line.specs.Represented.{signed, isLeft, isTop, oddOf, vectorIn, Bounded, centerIn, Near, Sound, ruleIn}
 use Rattle.line.specs.Bounds.{longest, Bounds}
 use Rattle.line.proofs.Vectors.{abs-signed, isNegative, as-signed, across-is, down-is}
 use Rattle.line.proofs.Lines.{norm-is, norm-some, square-is, odd-below}
@@ -201,7 +201,7 @@ bounds = record {
   length-position = λ t e. omega (arith, length-bound t (length-range t e));
   percentage-position = λ p line e h. omega (arith, percentage-bound p line (percentage-range p e));
   whole = omega arith;
-  held = λ z h. (omega (arith, held-high z (omega arith)), hold-is z offset (omega arith));
+  biased = λ z h. (omega (arith, biased-high z (omega arith)), biased-is z bias (omega arith));
 }
 
 -- the two facts by which a pixel's exact location lies from its location up to one unit more: with the location the rule holds, with one
@@ -211,23 +211,23 @@ unfolding locationBy
 location-is s w h i j b = root-is (ruleOf s w h .scale) (ruleOf s w h .square i j) (some-scale s w h b)
 
 -- ---- lines as the code holds them
-held-norm : (v : HeldVector) → Bounded v → 0 < norm (vectorIn v)
-held-norm v b = rw (norm-is (v .left) (v .up) (v .x) (v .y)) (norm-some (v .x) (v .y) (b .some))
+biased-norm : (v : SignedVector) → Bounded v → 0 < norm (vectorIn v)
+biased-norm v b = rw (norm-is (v .left) (v .up) (v .x) (v .y)) (norm-some (v .x) (v .y) (b .some))
 
-held-corner : (c : HeldCenter) → Near c → (m n : ℕ) → m ≤ 131072 → n ≤ 131072 → toCorner (centerIn c) m n < 9007199254740992
-held-corner c near m n p q =
-    let f : from (unheld (c .x)) m ≤ 67108863 = omega (arith, from-below (c .x) m (near .x) p) in
-    let g : from (unheld (c .y)) n ≤ 67108863 = omega (arith, from-below (c .y) n (near .y) q) in
+biased-corner : (c : BiasedCenter) → Near c → (m n : ℕ) → m ≤ 131072 → n ≤ 131072 → toCorner (centerIn c) m n < 9007199254740992
+biased-corner c near m n p q =
+    let f : from (unbiased (c .x)) m ≤ 67108863 = omega (arith, from-below (c .x) m (near .x) p) in
+    let g : from (unbiased (c .y)) n ≤ 67108863 = omega (arith, from-below (c .y) n (near .y) q) in
     omega (arith, mul-le-mul f f, mul-le-mul g g)
 
--- the rule of a held line has a scale that is not 0, and its locations are small enough to be held
+-- the rule of a line has a scale that is not 0, and its locations are small enough to be biased
 pub sound-scale : (l : Line) (w h : ℕ) → Sound l → 0 < ruleIn l w h .scale
-sound-scale (L.Straight v) w h b = held-norm v b
+sound-scale (L.Straight v) w h b = biased-norm v b
 sound-scale (L.Circle c) w h b = omega arith
 
 pub sound-location : (l : Line) (w h i j : ℕ) → Sound l → Box w h → i < w → j < h → locationBy (ruleIn l w h) i j ≤ 94906265
 unfolding locationBy
-sound-location (L.Straight v) w h i j b box p q = omega (arith, line-location-le (vectorIn v) w h box (held-norm v b) i j p q)
+sound-location (L.Straight v) w h i j b box p q = omega (arith, line-location-le (vectorIn v) w h box (biased-norm v b) i j p q)
 sound-location (L.Circle c) w h i j near box p q =
     root-most 1 (toCorner (centerIn c) (64 * i + 32) (64 * j + 32)) 94906265 (omega arith)
-    (omega (arith, held-corner c near (64 * i + 32) (64 * j + 32) (omega (arith, box .width)) (omega (arith, box .height))))
+    (omega (arith, biased-corner c near (64 * i + 32) (64 * j + 32) (omega (arith, box .width)) (omega (arith, box .height))))

@@ -1,4 +1,4 @@
--- Distances from a held center, and the least and the greatest of sums of squares.
+-- Distances from a biased center, and the least and the greatest of sums of squares.
 -- Assumes nothing.
 use mathlib.Core.Path.{_≡_, sym, ap, _∙_}
 use mathlib.Core.Bool.{Bool, true, false}
@@ -7,26 +7,26 @@ use native.Mathlib.Nat.{mul-le-mul}
 use native.Mathlib.Decide.{decLe}
 use native.Mathlib.Omega.{arith}
 use lib.IntN.{ℤ, pos, natAbs, _-ℤ_}
-use Rattle.numbers.specs.Held.{offset, unheld}
+use Rattle.numbers.specs.Biased.{bias, unbiased}
 use Rattle.numbers.specs.Fraction.{distance}
 use Rattle.numbers.proofs.Integers.{diff-of, diff-pos, diff-sub, diff-eq, diff-abs}
 use Rattle.line.specs.Circle.{from}
-use Rattle.line.specs.Held.{chosen}
+use Rattle.line.specs.Represented.{chosen}
 
--- the distance of a held coordinate from m units
-pub from-held : (c m : ℕ) → natAbs (pos (m + offset) -ℤ pos c) ≡ from (unheld c) m
-from-held c m =
+-- the distance of a biased coordinate from m units
+pub from-biased : (c m : ℕ) → natAbs (pos (m + bias) -ℤ pos c) ≡ from (unbiased c) m
+from-biased c m =
     ap natAbs
-    (diff-of (m + offset) c
-    ∙ diff-eq (m + offset) c (m + offset) (0 + c) (omega arith)
-    ∙ sym (ap (λ (z : ℤ). z -ℤ unheld c) (diff-pos m) ∙ diff-sub m 0 c offset))
+    (diff-of (m + bias) c
+    ∙ diff-eq (m + bias) c (m + bias) (0 + c) (omega arith)
+    ∙ sym (ap (λ (z : ℤ). z -ℤ unbiased c) (diff-pos m) ∙ diff-sub m 0 c bias))
 
-pub from-below : (c m : ℕ) → c < 67108864 → m ≤ 131072 → from (unheld c) m < 67108864
-from-below c m h k = rw (← from-held c m, diff-of (m + offset) c, diff-abs (m + offset) c) (omega arith)
+pub from-below : (c m : ℕ) → c < 67108864 → m ≤ 131072 → from (unbiased c) m < 67108864
+from-below c m h k = rw (← from-biased c m, diff-of (m + bias) c, diff-abs (m + bias) c) (omega arith)
 
--- a held number that is not far from 0 is below 2^26
-pub held-below : (c : ℕ) → natAbs (unheld c) ≤ 1310720 → c < 67108864
-held-below c h = let k : distance c offset ≤ 1310720 = rw (diff-abs c offset) at h in omega arith
+-- a biased number that is not far from 0 is below 2^26
+pub biased-below : (c : ℕ) → natAbs (unbiased c) ≤ 1310720 → c < 67108864
+biased-below c h = let k : distance c bias ≤ 1310720 = rw (diff-abs c bias) at h in omega arith
 
 -- the greater or the lesser of two: of their squares, of sums, and below what both are below
 module _ (far : Bool) where

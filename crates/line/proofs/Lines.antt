@@ -9,7 +9,7 @@ use lib.IntN.{ℤ, pos, _+ℤ_, _-ℤ_, _*ℤ_, negℤ, natAbs, subℕ, +ℤ-ass
 use Rattle.numbers.proofs.Integers.{diff-eq, diff-of, diff-pos, diff-neg, diff-add, diff-mul, mul-neg}
 use Rattle.line.specs.Vector.{vector}
 use Rattle.line.specs.Location.{norm, along, squared}
-use Rattle.line.specs.Held.{signed, oddOf}
+use Rattle.line.specs.Represented.{signed, oddOf}
 use Rattle.line.proofs.Vectors.{abs-signed}
 
 module _ (s t : Bool) (a b : ℕ) where
@@ -17,7 +17,7 @@ module _ (s t : Bool) (a b : ℕ) where
   unfolding norm
   norm-is = rw (abs-signed s a, abs-signed t b)
 
--- the norm of a held vector, by its sizes
+-- the norm of a vector, by its sizes
 pub norm-small : (x y : ℕ) → x + y ≤ 32767 → x * x + y * y < 1073741824
 norm-small x y h = omega (arith, mul-le-mul h h)
 

@@ -5,9 +5,9 @@ use mathlib.Core.Bool.{Bool, true, false}
 use Prim.Native.Nat.{ℕ, zero, suc, _+_, _-_, _/_, _%_, _≤_, _<_}
 use native.Mathlib.Omega.{arith}
 use lib.IntN.{ℤ, pos, negsuc, negℤ, natAbs}
-use Rattle.numbers.specs.Held.{offset, held}
+use Rattle.numbers.specs.Biased.{bias, biased}
 use Rattle.numbers.specs.Floor.{remainder}
-use Rattle.numbers.proofs.Integers.{hold-is}
+use Rattle.numbers.proofs.Integers.{biased-is}
 use Rattle.numbers.proofs.Floors.{remainder-at}
 use Rattle.sine.specs.Sines.{sineOf}
 use Rattle.sine.proofs.Rules.{parts}
@@ -15,9 +15,9 @@ use Rattle.gradient.specs.declared.Vertical.{Vertical}
 use Rattle.gradient.specs.declared.Vertical.the-variants as Ver
 use Rattle.gradient.specs.declared.Horizontal.{Horizontal}
 use Rattle.gradient.specs.declared.Horizontal.the-variants as Hor
-use Rattle.line.specs.declared.HeldVector.{HeldVector}
+use Rattle.line.specs.declared.SignedVector.{SignedVector}
 use Rattle.line.specs.Vector.{vector, across, down, inQuadrant, sineZ, quarters, angleVector}
-use Rattle.line.specs.Held.{signed, isLeft, isTop, vectorIn, Bounded, IsVector}
+use Rattle.line.specs.Represented.{signed, isLeft, isTop, vectorIn, Bounded, IsVector}
 
 pub abs-signed : (s : Bool) (n : ℕ) → natAbs (signed s n) ≡ n
 abs-signed false n = refl
@@ -41,19 +41,19 @@ pub down-is : (v : Vertical) (n : ℕ) → signed (isTop v) n ≡ down v n
 down-is Ver.Top n = refl
 down-is Ver.Bottom n = refl
 
--- what is left of an angle after whole turns, from how it is held: 2^25 + 285,568 is 94 · 360,000
-pub quarters-is : (a : ℤ) → natAbs a ≤ offset → quarters a ≡ (held a + 285568) % 360000 / 250
+-- what is left of an angle after whole turns, from its biased form: 2^25 + 285,568 is 94 · 360,000
+pub quarters-is : (a : ℤ) → natAbs a ≤ bias → quarters a ≡ (biased a + 285568) % 360000 / 250
 unfolding quarters
 quarters-is a h =
     ap (λ (n : ℕ). n / 250)
-    (ap (λ (z : ℤ). remainder z 360000) (sym (hold-is a offset h)) ∙ remainder-at (held a) offset 285568 94 360000 (omega arith) refl)
+    (ap (λ (z : ℤ). remainder z 360000) (sym (biased-is a bias h)) ∙ remainder-at (biased a) bias 285568 94 360000 (omega arith) refl)
 
 -- a vector made of the table's entries at r and 360 - r, in either order, is within bounds
-from-table : (v : HeldVector) (r : ℕ) → r ≤ 360 → v .x + v .y ≡ sineOf r + sineOf (360 - r) → Bounded v
+from-table : (v : SignedVector) (r : ℕ) → r ≤ 360 → v .x + v .y ≡ sineOf r + sineOf (360 - r) → Bounded v
 from-table v r h e = let p = parts r h in record { some = omega arith; sum = omega arith }
 
 -- the vector of an angle that is q quarter degrees past whole turns, in quadrant k, which m follows
-pub angle-in : (v : HeldVector) (a : ℤ) (q k m : ℕ) → quarters a ≡ q → q / 360 ≡ k → k < 4 → (k + 1) % 4 ≡ m
+pub angle-in : (v : SignedVector) (a : ℤ) (q k m : ℕ) → quarters a ≡ q → q / 360 ≡ k → k < 4 → (k + 1) % 4 ≡ m
     → v .x + v .y ≡ sineOf (q % 360) + sineOf (360 - q % 360)
     → vectorIn v ≡ vector (inQuadrant k (q % 360)) (negℤ (inQuadrant m (q % 360)))
     → IsVector v (angleVector a)

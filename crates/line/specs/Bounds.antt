@@ -5,7 +5,7 @@ use mathlib.Core.Path.{_≡_}
 use mathlib.Core.Bool.{true}
 use Prim.Native.Nat.{ℕ, _^_, _≤_, _<_}
 use lib.IntN.{ℤ, natAbs}
-use Rattle.numbers.specs.Held.{held, unheld}
+use Rattle.numbers.specs.Biased.{biased, unbiased}
 use Rattle.numbers.specs.Units.{lengthUnits, percentageUnits, mostWhole}
 use Rattle.gradient.specs.declared.Shape.{Shape}
 use Rattle.gradient.specs.Range.{lengthIn, percentageIn, shapeIn}
@@ -28,4 +28,4 @@ pub record Bounds : Type 0 where
   pub length-position : (t : ℤ) → lengthIn t ≡ true → natAbs (lengthUnits t) ≤ furthest
   pub percentage-position : (p : ℤ) (line : ℕ) → percentageIn p ≡ true → line ≤ longest → natAbs (percentageUnits p line) ≤ furthest
   pub whole : longest ≤ mostWhole
-  pub held : (z : ℤ) → natAbs z ≤ furthest → (held z < 2 ^ 32) × (unheld (held z) ≡ z)
+  pub biased : (z : ℤ) → natAbs z ≤ furthest → (biased z < 2 ^ 32) × (unbiased (biased z) ≡ z)

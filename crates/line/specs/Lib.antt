@@ -3,6 +3,6 @@ pub mod Vector
 pub mod Location
 pub mod Circle
 pub mod Line
-pub mod Held
+pub mod Represented
 pub mod Bounds
 pub mod Worked

@@ -11,7 +11,7 @@ ghost use mathlib.Core.Path.{_≡_};
 ghost use mathlib.Core.Bool.{true};
 ghost use Prim.Native.Nat.{_+_, _*_, _≤_, _<_};
 ghost use lib.IntN.{natAbs};
-ghost use Rattle.numbers.specs.Held.{offset, unheld};
+ghost use Rattle.numbers.specs.Biased.{bias, twiceBias, unbiased};
 ghost use Rattle.root.specs.Root.{rootOf};
 ghost use Rattle.gradient.specs.Range.{coordinateIn, directionIn, sizeIn, shapeIn};
 ghost use Rattle.line.specs.Box.{Box};
@@ -19,51 +19,51 @@ ghost use Rattle.line.specs.Vector.{sideVector, vector, across, down, an
 ghost use Rattle.line.specs.Location.{squared, norm, lineLength, lineRule, locationBy};
 ghost use Rattle.line.specs.Circle.{coordinateUnits, centerOf, from, ofSides, ofCorners, radiusOf, circleRule};
 ghost use Rattle.line.specs.Line.{lengthOf, ruleOf};
-ghost use Rattle.line.specs.Held.{isLeft, isTop, vectorIn, IsVector, Bounded, oddOf, centerIn, IsCenter, Near, chosen, Sound, IsLine, ruleIn};
+ghost use Rattle.line.specs.Represented.{isLeft, isTop, vectorIn, IsVector, Bounded, oddOf, centerIn, IsCenter, Near, chosen, Sound, IsLine, ruleIn};
 
 // A vector as two sizes, with the signs beside them.
-pub struct HeldVector {
+pub struct SignedVector {
     pub x: u32,
     pub y: u32,
     pub left: bool,
     pub up: bool,
 }
 
-// A circle's center, each coordinate held with 2^25 added.
-pub struct HeldCenter {
+// A circle's center, both coordinates biased.
+pub struct BiasedCenter {
     pub x: u32,
     pub y: u32,
 }
 
 // What a pixel's location is measured along or from.
 pub enum Line {
-    Straight(HeldVector),
-    Circle(HeldCenter),
+    Straight(SignedVector),
+    Circle(BiasedCenter),
 }
 
-fn side_vector(s: Side) -> HeldVector
+fn side_vector(s: Side) -> SignedVector
     ensures { λ r. ⌜ IsVector r (sideVector s) ⌝ }
 {
     match s {
-        Side::Top => HeldVector {
+        Side::Top => SignedVector {
             x: 0,
             y: 1,
             left: false,
             up: true,
         },
-        Side::Right => HeldVector {
+        Side::Right => SignedVector {
             x: 1,
             y: 0,
             left: false,
             up: false,
         },
-        Side::Bottom => HeldVector {
+        Side::Bottom => SignedVector {
             x: 0,
             y: 1,
             left: false,
             up: false,
         },
-        Side::Left => HeldVector {
+        Side::Left => SignedVector {
             x: 1,
             y: 0,
             left: true,
@@ -90,13 +90,13 @@ fn is_top(v: Vertical) -> bool
     }
 }
 
-fn corner_vector(v: Vertical, a: Horizontal, w: usize, h: usize) -> HeldVector
+fn corner_vector(v: Vertical, a: Horizontal, w: usize, h: usize) -> SignedVector
     requires { ⌜ Box w h ⌝ }
     ensures { λ r. ⌜ IsVector r (vector (across a h) (down v w)) ⌝ }
 {
     let left = is_left(a);
     let up = is_top(v);
-    HeldVector {
+    SignedVector {
         x: h as u32,
         y: w as u32,
         left,
@@ -105,35 +105,35 @@ fn corner_vector(v: Vertical, a: Horizontal, w: usize, h: usize) -> HeldVector
 }
 
 // The vector of an angle in thousandths of a degree.
-fn angle_vector(a: i32) -> HeldVector
-    requires { ⌜ natAbs a ≤ offset ⌝ }
+fn angle_vector(a: i32) -> SignedVector
+    requires { ⌜ natAbs a ≤ bias ⌝ }
     ensures { λ r. ⌜ IsVector r (angleVector a) ⌝ }
 {
     // 2^25 and 285,568 is 94 whole turns
-    let q = (numbers::hold(a) + 285568) % 360000 / 250;
+    let q = (numbers::biased(a) + 285568) % 360000 / 250;
     let r = (q % 360) as usize;
     let near = sine::sine(r);
     let far = sine::sine(360 - r);
     match q / 360 {
-        0 => HeldVector {
+        0 => SignedVector {
             x: near,
             y: far,
             left: false,
             up: true,
         },
-        1 => HeldVector {
+        1 => SignedVector {
             x: far,
             y: near,
             left: false,
             up: false,
         },
-        2 => HeldVector {
+        2 => SignedVector {
             x: near,
             y: far,
             left: true,
             up: false,
         },
-        _ => HeldVector {
+        _ => SignedVector {
             x: far,
             y: near,
             left: true,
@@ -142,7 +142,7 @@ fn angle_vector(a: i32) -> HeldVector
     }
 }
 
-pub fn direction_vector(d: Direction, w: usize, h: usize) -> HeldVector
+pub fn direction_vector(d: Direction, w: usize, h: usize) -> SignedVector
     requires { ⌜ Box w h × (directionIn d ≡ true) ⌝ }
     ensures { λ r. ⌜ IsVector r (vectorOf d w h) ⌝ }
 {
@@ -154,7 +154,7 @@ pub fn direction_vector(d: Direction, w: usize, h: usize) -> HeldVector
 }
 
 // a times the vector's width and b times its height.
-fn weighted(a: u64, b: u64, v: HeldVector) -> u64
+fn weighted(a: u64, b: u64, v: SignedVector) -> u64
     requires { ⌜ (a ≤ 4096) × (b ≤ 4096) ⌝ }
     ensures { λ r. ⌜ r ≡ a * v .x + b * v .y ⌝ }
 {
@@ -164,7 +164,7 @@ fn weighted(a: u64, b: u64, v: HeldVector) -> u64
 }
 
 // The greatest q whose square times the vector's norm is at most t squared. The guess changes only the time.
-fn on_line(t: u64, v: HeldVector, guess: u32) -> u64
+fn on_line(t: u64, v: SignedVector, guess: u32) -> u64
     requires { ⌜ (t < 4294967296) × Bounded v ⌝ }
     ensures { λ r. ⌜ r ≡ rootOf (norm (vectorIn v)) (squared t) ⌝ }
 {
@@ -173,7 +173,7 @@ fn on_line(t: u64, v: HeldVector, guess: u32) -> u64
     root::root_near(x * x + y * y, t * t, guess)
 }
 
-fn vector_length(v: HeldVector, w: usize, h: usize) -> u64
+fn vector_length(v: SignedVector, w: usize, h: usize) -> u64
     requires { ⌜ Box w h × Bounded v ⌝ }
     ensures { λ r. ⌜ r ≡ lineLength w h (vectorIn v) ⌝ }
 {
@@ -194,7 +194,7 @@ pub fn odd(i: usize, w: usize, back: bool) -> u64
     }
 }
 
-fn vector_location(v: HeldVector, w: usize, h: usize, i: usize, j: usize, guess: u32) -> u64
+fn vector_location(v: SignedVector, w: usize, h: usize, i: usize, j: usize, guess: u32) -> u64
     requires { ⌜ Box w h × Bounded v × (i < w) × (j < h) ⌝ }
     ensures { λ r. ⌜ r ≡ locationBy (lineRule w h (vectorIn v)) i j ⌝ }
 {
@@ -204,10 +204,10 @@ fn vector_location(v: HeldVector, w: usize, h: usize, i: usize, j: usize, guess:
     on_line(32 * s, v, guess)
 }
 
-// A coordinate of a circle's center in units, held, in a box of so many pixels along its axis.
+// A coordinate of a circle's center in units, biased, in a box of so many pixels along its axis.
 fn coordinate_units(c: Coordinate, pixels: usize) -> u32
     requires { ⌜ (coordinateIn c ≡ true) × (pixels ≤ 2048) ⌝ }
-    ensures { λ r. ⌜ unheld r ≡ coordinateUnits c pixels ⌝ }
+    ensures { λ r. ⌜ unbiased r ≡ coordinateUnits c pixels ⌝ }
 {
     match c {
         Coordinate::Length(t) => numbers::length_units(t),
@@ -215,11 +215,11 @@ fn coordinate_units(c: Coordinate, pixels: usize) -> u32
     }
 }
 
-pub fn circle_center(x: Coordinate, y: Coordinate, w: usize, h: usize) -> HeldCenter
+pub fn circle_center(x: Coordinate, y: Coordinate, w: usize, h: usize) -> BiasedCenter
     requires { ⌜ Box w h × (coordinateIn x ≡ true) × (coordinateIn y ≡ true) ⌝ }
     ensures { λ r. ⌜ IsCenter r (centerOf x y w h) ⌝ }
 {
-    HeldCenter {
+    BiasedCenter {
         x: coordinate_units(x, w),
         y: coordinate_units(y, h),
     }
@@ -227,15 +227,15 @@ pub fn circle_center(x: Coordinate, y: Coordinate, w: usize, h: usize) -> HeldCe
 
 // How far a coordinate is from m units.
 fn distance(c: u32, m: u64) -> u64
-    requires { ⌜ (c < 67108864) × (m ≤ 131072) ⌝ }
-    ensures { λ r. ⌜ (r ≡ from (unheld c) m) × (r < 67108864) ⌝ }
+    requires { ⌜ (c < twiceBias) × (m ≤ 131072) ⌝ }
+    ensures { λ r. ⌜ (r ≡ from (unbiased c) m) × (r < twiceBias) ⌝ }
 {
-    numbers::apart(m + 33554432, c as u64)
+    numbers::apart(m + numbers::WIDE_BIAS, c as u64)
 }
 
 // The root of the sum of two squares. The guess changes only the time.
 fn hypotenuse(a: u64, b: u64, guess: u32) -> u64
-    requires { ⌜ (a < 67108864) × (b < 67108864) ⌝ }
+    requires { ⌜ (a < twiceBias) × (b < twiceBias) ⌝ }
     ensures { λ r. ⌜ r ≡ rootOf 1 (squared a + squared b) ⌝ }
 {
     root::root_near(1, a * a + b * b, guess)
@@ -253,29 +253,29 @@ fn choose(far: bool, a: u64, b: u64) -> u64
 
 // The distance of a coordinate to the farther, or the closer, of the two edges across its axis.
 fn edge(far: bool, c: u32, pixels: usize) -> u64
-    requires { ⌜ (c < 67108864) × (pixels ≤ 2048) ⌝ }
-    ensures { λ r. ⌜ (r ≡ chosen far (from (unheld c) 0) (from (unheld c) (64 * pixels))) × (r < 67108864) ⌝ }
+    requires { ⌜ (c < twiceBias) × (pixels ≤ 2048) ⌝ }
+    ensures { λ r. ⌜ (r ≡ chosen far (from (unbiased c) 0) (from (unbiased c) (64 * pixels))) × (r < twiceBias) ⌝ }
 {
     let near = distance(c, 0);
     let other = distance(c, (64 * pixels) as u64);
     choose(far, near, other)
 }
 
-fn side_radius(far: bool, c: HeldCenter, w: usize, h: usize) -> u64
+fn side_radius(far: bool, c: BiasedCenter, w: usize, h: usize) -> u64
     requires { ⌜ Box w h × Near c ⌝ }
     ensures { λ r. ⌜ r ≡ ofSides (chosen far) w h (centerIn c) ⌝ }
 {
     choose(far, edge(far, c.x, w), edge(far, c.y, h))
 }
 
-fn corner_radius(far: bool, c: HeldCenter, w: usize, h: usize) -> u64
+fn corner_radius(far: bool, c: BiasedCenter, w: usize, h: usize) -> u64
     requires { ⌜ Box w h × Near c ⌝ }
     ensures { λ r. ⌜ r ≡ rootOf 1 (ofCorners (chosen far) w h (centerIn c)) ⌝ }
 {
     hypotenuse(edge(far, c.x, w), edge(far, c.y, h), 0)
 }
 
-fn extent_radius(e: Extent, c: HeldCenter, w: usize, h: usize) -> u64
+fn extent_radius(e: Extent, c: BiasedCenter, w: usize, h: usize) -> u64
     requires { ⌜ Box w h × Near c ⌝ }
     ensures { λ r. ⌜ r ≡ radiusOf (Size.Extent e) w h (centerIn c) ⌝ }
 {
@@ -287,17 +287,17 @@ fn extent_radius(e: Extent, c: HeldCenter, w: usize, h: usize) -> u64
     }
 }
 
-fn radius(s: Size, c: HeldCenter, w: usize, h: usize) -> u64
+fn radius(s: Size, c: BiasedCenter, w: usize, h: usize) -> u64
     requires { ⌜ Box w h × Near c × (sizeIn s ≡ true) ⌝ }
     ensures { λ r. ⌜ r ≡ radiusOf s w h (centerIn c) ⌝ }
 {
     match s {
         Size::Extent(e) => extent_radius(e, c, w, h),
-        Size::Length(t) => numbers::apart(numbers::length_units(t) as u64, 33554432),
+        Size::Length(t) => numbers::apart(numbers::length_units(t) as u64, numbers::WIDE_BIAS),
     }
 }
 
-fn circle_location(c: HeldCenter, i: usize, j: usize, guess: u32) -> u64
+fn circle_location(c: BiasedCenter, i: usize, j: usize, guess: u32) -> u64
     requires { ⌜ Near c × (i < 2048) × (j < 2048) ⌝ }
     ensures { λ r. ⌜ r ≡ locationBy (circleRule (centerIn c)) i j ⌝ }
 {

@@ -1,4 +1,4 @@
--- Low halves tell a number from others near it, and a search that halves keeps the root.
+-- The low 32 bits tell a number from others near it, and each step of the search keeps the root in its range.
 -- Assumes nothing.
 use mathlib.Core.Path.{_≡_, ap}
 use Prim.Native.Nat.{ℕ, _+_, _-_, _*_, _%_, _≤_, _<_}
@@ -10,14 +10,14 @@ use Rattle.root.proofs.Laws.{root-eq}
 use Rattle.lowroots.specs.Found.{Finds, Sought}
 use Rattle.lowroots.specs.declared.Search.{Search}
 
--- a difference of low halves is that of the numbers where this is small
+-- where two numbers are close, the difference of their low 32 bits is their own
 pub difference : (low g m square rest z : ℕ) → m ≡ g → square ≡ m * m % 4294967296 → (rest + square) % 4294967296 ≡ low → rest < 4294967296
     → z % 4294967296 ≡ low → g * g ≤ z → z < g * g + 2147483648 → rest % 2147483648 + g * g ≡ z
 difference low g m square rest z em sq is fits ez lo hi =
     let q : m * m ≡ g * g = ap (λ (k : ℕ). k * k) em in
     omega arith
 
--- ---- four numbers: x, y and v are 1 where z is at least the square of the first, the second and the third number after g
+-- ---- four numbers: x, y and v are 1 where z is at least the square of the first, second and third number after g
 pub four : (low g m b square rest over x y v : ℕ) → m ≡ g % 134217728 → square ≡ m * m % 4294967296 → (rest + square) % 4294967296 ≡ low → rest < 4294967296
     → over ≡ rest % 2147483648 → (x ≤ 1) × (x ≡ 0 → over ≤ 2 * m) × (x ≡ 1 → 2 * m < over) → (y ≤ 1) × (y ≡ 0 → over ≤ 2 * (2 * m) + 3) × (y ≡ 1 → 2 * (2 * m) + 3 < over)
     → (v ≤ 1) × (v ≡ 0 → over ≤ 2 * m + (2 * (2 * m) + 3) + 5) × (v ≡ 1 → 2 * m + (2 * (2 * m) + 3) + 5 < over) → b ≡ m + x + y + v → Finds 4 134217728 low g b
@@ -40,11 +40,11 @@ four low g m b square rest over x y v em sq is fits eo hx hy hv eb z ez small lo
     go eg o (no p) (yes q) (no r) = absurd (omega (arith, hy .1 (omega arith), hv .2 (omega (arith, hv .0))))
 
 -- ---- a search
--- one number is left: it is the root
+-- the one number that is left is the root
 pub found : (z : ℕ) (s : Search) → Sought z 1 s → s .from ≡ rootOf 1 z
 found z s h = root-eq 1 z (s .from) (omega arith) (record { low = omega (arith, h .over); high = omega (arith, h .below) })
 
--- k numbers on where t, what the square of the k-th is above the first's, is at most `over`; a and b are then k and t, and else 0
+-- a step of k numbers: t is how far the square goes up by it. Where t is at most `over`, a and b are k and t; otherwise both are 0
 pub sought-half : (z m k t a b : ℕ) (s : Search) → t ≡ k * (2 * s .from + k) → (s .over < t → a ≡ 0) → (t ≤ s .over → a ≡ k) → (s .over < t → b ≡ 0)
     → (t ≤ s .over → b ≡ t) → k ≤ m → Sought z (k + m) s → Sought z m (record { from = s .from + a; over = (s .over - b) % 2147483648 })
 sought-half z m k t a b s et a₀ a₁ b₀ b₁ km h = either (decLe t (s .over))

@@ -101,23 +101,23 @@ diff-order a b c d = either (decLe b a) (decLe d c)
     either (no h) (yes k) = rw (at-neg a b (omega arith), at-pos c d k) (sym (le-leb (a + d) (c + b) (omega arith)))
     either (no h) (no k) = rw (at-neg a b (omega arith), at-neg c d (omega arith)) (same-leb (a + d) (c + b) (d - suc c) (b - suc a) (λ p. omega arith) (λ p. omega arith))
 
--- with one offset it is the order of what is held
-pub held-order : (a b k : ℕ) → leZ (subℕ a k) (subℕ b k) ≡ leb a b
-held-order a b k = diff-order a k b k ∙ same-leb a b (a + k) (b + k) (λ p. omega arith) (λ p. omega arith)
+-- with one offset it is the order of the biased numbers
+pub biased-order : (a b k : ℕ) → leZ (subℕ a k) (subℕ b k) ≡ leb a b
+biased-order a b k = diff-order a k b k ∙ same-leb a b (a + k) (b + k) (λ p. omega arith) (λ p. omega arith)
 
--- every integer is held, with any offset that is large enough
-pub hold-is : (z : ℤ) (k : ℕ) → natAbs z ≤ k → subℕ (natAbs (z +ℤ pos k)) k ≡ z
-hold-is (pos n) k h = at-pos (n + k) k (omega arith) ∙ ap pos (omega arith)
-hold-is (negsuc n) k h = ap (λ (z : ℤ). subℕ (natAbs z) k) (at-pos k (suc n) h) ∙ at-neg (k - suc n) k (omega arith) ∙ ap negsuc (omega arith)
+-- every integer can be biased, with any offset that is large enough
+pub biased-is : (z : ℤ) (k : ℕ) → natAbs z ≤ k → subℕ (natAbs (z +ℤ pos k)) k ≡ z
+biased-is (pos n) k h = at-pos (n + k) k (omega arith) ∙ ap pos (omega arith)
+biased-is (negsuc n) k h = ap (λ (z : ℤ). subℕ (natAbs z) k) (at-pos k (suc n) h) ∙ at-neg (k - suc n) k (omega arith) ∙ ap negsuc (omega arith)
 
 -- and no further from the offset than it is from 0
-pub hold-near : (z : ℤ) (k : ℕ) → natAbs z ≤ k → distance (natAbs (z +ℤ pos k)) k ≡ natAbs z
-hold-near z k h = sym (diff-abs (natAbs (z +ℤ pos k)) k) ∙ ap natAbs (hold-is z k h)
+pub biased-near : (z : ℤ) (k : ℕ) → natAbs z ≤ k → distance (natAbs (z +ℤ pos k)) k ≡ natAbs z
+biased-near z k h = sym (diff-abs (natAbs (z +ℤ pos k)) k) ∙ ap natAbs (biased-is z k h)
 
--- what is held is found again
-pub held-again : (u k : ℕ) → natAbs (subℕ u k +ℤ pos k) ≡ u
-held-again u k = ap (λ (z : ℤ). natAbs (subℕ u k +ℤ z)) (diff-pos k) ∙ ap natAbs (diff-add u k k 0 ∙ diff-eq (u + k) (k + 0) u 0 (omega arith) ∙ sym (diff-pos u))
+-- what is biased is found again
+pub biased-again : (u k : ℕ) → natAbs (subℕ u k +ℤ pos k) ≡ u
+biased-again u k = ap (λ (z : ℤ). natAbs (subℕ u k +ℤ z)) (diff-pos k) ∙ ap natAbs (diff-add u k k 0 ∙ diff-eq (u + k) (k + 0) u 0 (omega arith) ∙ sym (diff-pos u))
 
 -- a count above the offset stands for itself
-pub held-count : (k q : ℕ) → subℕ (k + q) k ≡ pos q
-held-count k q = at-pos (k + q) k (omega arith) ∙ ap pos (omega arith)
+pub biased-count : (k q : ℕ) → subℕ (k + q) k ≡ pos q
+biased-count k q = at-pos (k + q) k (omega arith) ∙ ap pos (omega arith)

@@ -1,4 +1,4 @@
--- Signed numbers of 32 bits: what taking away a sign, and holding, ask of the machine and give.
+-- Signed numbers of 32 bits: what taking away a sign, and biasing, ask of the machine and give.
 -- Assumes nothing.
 use mathlib.Core.Path.{_≡_, refl, sym, ap, _∙_, subst⁻¹}
 use mathlib.Core.Bool.{true, false, true≢false}
@@ -11,9 +11,9 @@ use mir.Syntax.{w32}
 use mir.Val.{Fits, SFits, ofZ, toZ}
 use mir.ValLaws.{toZ-pos, toZ-ofZ}
 use borrow.Author.Tests.{ltb-true}
-use Rattle.numbers.specs.Held.{offset, held, unheld}
+use Rattle.numbers.specs.Biased.{bias, biased, unbiased}
 use Rattle.numbers.specs.Fraction.{distance}
-use Rattle.numbers.proofs.Integers.{at-pos, diff-of, diff-abs, hold-near}
+use Rattle.numbers.proofs.Integers.{at-pos, diff-of, diff-abs, biased-near}
 
 -- what a cast of the signed number with bits x to an unsigned one asks, and that it gives x
 pub record Casts (x : ℕ) : Type 0 where
@@ -46,44 +46,44 @@ positive (negsuc n) f t =
     let h : true ≡ false = ap (λ (z : ℤ). ltZ z (pos 0)) (sym (toZ-ofZ w32 (negsuc n) f)) ∙ t in
     absurd (true≢false h)
 
--- a number that can be held, as 32 bits and held
-module _ (z : ℤ) (h : natAbs z ≤ offset) where
+-- a number that can be biased, as 32 bits and as a biased number
+module _ (z : ℤ) (h : natAbs z ≤ bias) where
   small-fits : SFits w32 z
   small-fits = go z h
     where
-      go : (z : ℤ) → natAbs z ≤ offset → SFits w32 z
+      go : (z : ℤ) → natAbs z ≤ bias → SFits w32 z
       go (pos n) k = record { sfits = omega arith }
       go (negsuc n) k = record { sfits = omega arith }
 
   pub small-same : toZ w32 (ofZ w32 z) ≡ z
   small-same = toZ-ofZ w32 z small-fits
 
-  raised : z +ℤ pos offset ≡ pos (held z)
+  raised : z +ℤ pos bias ≡ pos (biased z)
   raised = go z h
     where
-      go : (z : ℤ) → natAbs z ≤ offset → z +ℤ pos offset ≡ pos (held z)
+      go : (z : ℤ) → natAbs z ≤ bias → z +ℤ pos bias ≡ pos (biased z)
       go (pos n) k = refl
-      go (negsuc n) k = let e = at-pos offset (suc n) (omega arith) in e ∙ ap (λ (z : ℤ). pos (natAbs z)) (sym e)
+      go (negsuc n) k = let e = at-pos bias (suc n) (omega arith) in e ∙ ap (λ (z : ℤ). pos (natAbs z)) (sym e)
 
-  pub held-high : held z ≤ offset + offset
-  held-high = let k : distance (held z) offset ≡ natAbs z = hold-near z offset h in omega arith
+  pub biased-high : biased z ≤ bias + bias
+  biased-high = let k : distance (biased z) bias ≡ natAbs z = biased-near z bias h in omega arith
 
-  pub raised-fits : SFits w32 (z +ℤ pos offset)
-  raised-fits = rw raised (let k = held-high in record { sfits = omega arith })
+  pub raised-fits : SFits w32 (z +ℤ pos bias)
+  raised-fits = rw raised (let k = biased-high in record { sfits = omega arith })
 
-  pub raised-same : toZ w32 (ofZ w32 (z +ℤ pos offset)) ≡ pos (held z)
-  raised-same = toZ-ofZ w32 (z +ℤ pos offset) raised-fits ∙ raised
+  pub raised-same : toZ w32 (ofZ w32 (z +ℤ pos bias)) ≡ pos (biased z)
+  raised-same = toZ-ofZ w32 (z +ℤ pos bias) raised-fits ∙ raised
 
--- a held number, and the one that it stands for
-module _ (u : ℕ) (h : u ≤ offset + offset) where
-  pub unheld-small : natAbs (unheld u) ≤ offset
-  unheld-small = rw (diff-abs u offset) (omega arith)
+-- a biased number, and the one that it stands for
+module _ (u : ℕ) (h : u ≤ bias + bias) where
+  pub unbiased-small : natAbs (unbiased u) ≤ bias
+  unbiased-small = rw (diff-abs u bias) (omega arith)
 
-  lowered : toZ w32 u -ℤ pos offset ≡ unheld u
-  lowered = ap (λ (z : ℤ). z -ℤ pos offset) (toZ-pos w32 u (omega arith)) ∙ diff-of u offset
+  lowered : toZ w32 u -ℤ pos bias ≡ unbiased u
+  lowered = ap (λ (z : ℤ). z -ℤ pos bias) (toZ-pos w32 u (omega arith)) ∙ diff-of u bias
 
-  pub lowered-fits : SFits w32 (toZ w32 u -ℤ pos offset)
-  lowered-fits = rw lowered (small-fits (unheld u) unheld-small)
+  pub lowered-fits : SFits w32 (toZ w32 u -ℤ pos bias)
+  lowered-fits = rw lowered (small-fits (unbiased u) unbiased-small)
 
-  pub lowered-same : toZ w32 (ofZ w32 (toZ w32 u -ℤ pos offset)) ≡ unheld u
-  lowered-same = toZ-ofZ w32 (toZ w32 u -ℤ pos offset) lowered-fits ∙ lowered
+  pub lowered-same : toZ w32 (ofZ w32 (toZ w32 u -ℤ pos bias)) ≡ unbiased u
+  lowered-same = toZ-ofZ w32 (toZ w32 u -ℤ pos bias) lowered-fits ∙ lowered

@@ -1,4 +1,4 @@
-pub mod Held
+pub mod Biased
 pub mod Floor
 pub mod Units
 pub mod Fraction

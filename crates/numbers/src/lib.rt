@@ -1,9 +1,16 @@
-// Numbers of either sign held as unsigned ones, and lengths and percentages in units of 1/64 px.
+// Numbers of either sign, which the code keeps biased: as unsigned numbers 2^25 above them. Lengths and percentages in units of 1/64 px.
 ghost use mathlib.Core.Path.{_≡_};
 ghost use Prim.Native.Nat.{_%_, _^_, _≤_, _<_};
 ghost use lib.IntN.{natAbs, pos, _-ℤ_};
-ghost use Rattle.numbers.specs.Held.{offset, held, unheld};
+ghost use Rattle.numbers.specs.Biased.{bias, twiceBias, biased, unbiased};
 ghost use Rattle.numbers.specs.Units.{rounded, lengthUnits, percentageUnits, mostWhole};
+
+// 2^25, what a biased number is above the number that it stands for; then the same in 64 bits, and signed.
+pub const BIAS: u32 = 33554432;
+
+pub const WIDE_BIAS: u64 = BIAS as u64;
+
+const SIGNED_BIAS: i32 = BIAS as i32;
 
 // A number without its sign.
 pub fn magnitude(v: i32) -> u32
@@ -12,20 +19,20 @@ pub fn magnitude(v: i32) -> u32
     if v < 0 { (!v) as u32 + 1 } else { v as u32 }
 }
 
-// A number of either sign as it is held, with 2^25 added.
-pub fn hold(v: i32) -> u32
-    requires { ⌜ natAbs v ≤ offset ⌝ }
-    ensures { λ r. ⌜ r ≡ held v ⌝ }
+// A number of either sign, biased.
+pub fn biased(v: i32) -> u32
+    requires { ⌜ natAbs v ≤ bias ⌝ }
+    ensures { λ r. ⌜ r ≡ biased v ⌝ }
 {
-    (v + 33554432) as u32
+    (v + SIGNED_BIAS) as u32
 }
 
-// The number that a held one stands for.
-pub fn release(u: u32) -> i32
-    requires { ⌜ u ≤ 67108864 ⌝ }
-    ensures { λ r. ⌜ r ≡ unheld u ⌝ }
+// The number that a biased one stands for.
+pub fn unbiased(u: u32) -> i32
+    requires { ⌜ u ≤ twiceBias ⌝ }
+    ensures { λ r. ⌜ r ≡ unbiased u ⌝ }
 {
-    (u as i32) - 33554432
+    (u as i32) - SIGNED_BIAS
 }
 
 // How far two numbers are apart.
@@ -43,25 +50,25 @@ pub fn round(n: u64, d: u64) -> u64
     n / d
 }
 
-// A length in thousandths of a px, from -8,192 to 8,192 px, in units, held.
+// A length in thousandths of a px, from -8,192 to 8,192 px, in units, biased.
 pub fn length_units(t: i32) -> u32
     requires { ⌜ natAbs t ≤ 8192000 ⌝ }
-    ensures { λ r. ⌜ unheld r ≡ lengthUnits t ⌝ }
+    ensures { λ r. ⌜ unbiased r ≡ lengthUnits t ⌝ }
 {
     // 2^25 times 64 and 352 is 2,147,484 thousand; 2^25 is 31,406,948 more than that many units
-    let n = round((hold(t) as u64) * 64 + 352, 1000);
+    let n = round((biased(t) as u64) * 64 + 352, 1000);
     (n + 31406948) as u32
 }
 
-// A percentage in thousandths, from -1,000% to 1,000%, of a whole number of units, in units, held.
+// A percentage in thousandths, from -1,000% to 1,000%, of a whole number of units, in units, biased.
 pub fn percentage_units(p: i32, whole: u32) -> u32
     requires { ⌜ (natAbs p ≤ 1000000) × (whole ≤ mostWhole) ⌝ }
-    ensures { λ r. ⌜ unheld r ≡ percentageUnits p whole ⌝ }
+    ensures { λ r. ⌜ unbiased r ≡ percentageUnits p whole ⌝ }
 {
     // 2^25 and 45,568 is 336 times 100,000
     let w = whole as u64;
-    let n = round(((hold(p) as u64) + 45568) * w, 100000);
-    (n + 33554432 - 336 * w) as u32
+    let n = round(((biased(p) as u64) + 45568) * w, 100000);
+    (n + WIDE_BIAS - 336 * w) as u32
 }
 
 // The low 32 bits.

@@ -11,7 +11,7 @@ use lib.Signed.{leZ}
 use Rattle.stops.proofs.Order.{leZ-refl}
 use Rattle.placing.specs.Spot.{Spot, unplaced, at}
 use Rattle.placing.specs.Fixup.{orAt, firstAt, lastAt, endsPlaced, maxℤ, raisedFrom, raised, next}
-use Rattle.placing.specs.Held.{Ready}
+use Rattle.placing.specs.Represented.{Ready}
 
 abbrev pub isPlaced : Spot → Type 0
 isPlaced unplaced = ⊥

@@ -9,12 +9,12 @@ use lib.IntN.{ℤ, pos, natAbs, subℕ, _+ℤ_, _-ℤ_, _*ℤ_}
 use lib.Signed.{leZ}
 use borrow.Author.Tests.{leb-true, le-leb}
 use Rattle.numbers.specs.Units.{toUnit, rounded}
-use Rattle.numbers.proofs.Integers.{diff-eq, diff-add, diff-sub, diff-mul, held-order, hold-is}
+use Rattle.numbers.proofs.Integers.{diff-eq, diff-add, diff-sub, diff-mul, biased-order, biased-is}
 use Rattle.numbers.proofs.Rounding.{unit-at, rounded-mono, rounded-exact}
 use Rattle.numbers.proofs.Units.{rounded-high}
 use Rattle.placing.specs.Fixup.{between}
 
--- from how the two are held, with any offset
+-- from their biased forms, with any offset
 pub part-at : (a b m k o : ℕ) → a ≤ b → 0 < k → subℕ (a + rounded ((b - a) * m) k) o ≡ between (subℕ a o) (subℕ b o) m k
 part-at a b m k o h p =
     let d : ℕ = (b - a) * m in
@@ -45,20 +45,20 @@ module _ (A B : ℤ) (h : leZ A B ≡ true) where
 
   at-a : A ≡ subℕ a o
   unfolding a o
-  at-a = sym (hold-is A (natAbs A + natAbs B) (omega arith))
+  at-a = sym (biased-is A (natAbs A + natAbs B) (omega arith))
 
   at-b : B ≡ subℕ b o
   unfolding b o
-  at-b = sym (hold-is B (natAbs A + natAbs B) (omega arith))
+  at-b = sym (biased-is B (natAbs A + natAbs B) (omega arith))
 
   a-b : a ≤ b
-  a-b = leb-true a b (sym (ap₂ leZ at-a at-b ∙ held-order a b o) ∙ h)
+  a-b = leb-true a b (sym (ap₂ leZ at-a at-b ∙ biased-order a b o) ∙ h)
 
   part : (m k : ℕ) → 0 < k → between A B m k ≡ subℕ (a + rounded ((b - a) * m) k) o
   part m k p = ap₂ (λ (x y : ℤ). between x y m k) at-a at-b ∙ sym (part-at a b m k o a-b p)
 
   below : (x y : ℤ) (u v : ℕ) → x ≡ subℕ u o → y ≡ subℕ v o → u ≤ v → leZ x y ≡ true
-  below x y u v e f l = ap₂ leZ e f ∙ held-order u v o ∙ le-leb u v l
+  below x y u v e f l = ap₂ leZ e f ∙ biased-order u v o ∙ le-leb u v l
 
   pub part-from : (m k : ℕ) → 0 < k → leZ A (between A B m k) ≡ true
   part-from m k p = below A (between A B m k) a (a + rounded ((b - a) * m) k) at-a (part m k p) (omega arith)

@@ -10,7 +10,7 @@ use lib.IntN.{ℤ, pos, natAbs}
 use lib.ListN.{length, take, getD, replicate, length-map, length-take, List·getD-map, List·getD-append}
 use lib.Seq.{take-append-seam, drop-append-seam}
 use lib.Signed.{leZ}
-use Rattle.numbers.specs.Held.{unheld}
+use Rattle.numbers.specs.Biased.{unbiased}
 use Rattle.gradient.specs.declared.Color.{Color}
 use Rattle.gradient.specs.declared.Position.{Position}
 use Rattle.gradient.specs.declared.Position.the-variants as P
@@ -33,7 +33,7 @@ use Rattle.placing.specs.Spot.{Spot, unplaced, at, spotOf}
 use Rattle.placing.specs.Fixup.{firstAt, lastAt, endsPlaced, raisedTo, raisedFrom, raised, spacedFrom, fixup}
 use Rattle.placing.specs.Placed.{spotsOf, atPositions, placedStops, placedIn, positionsIn, listed}
 use Rattle.placing.proofs.Sorting.{NotBelow, Rising, fixup-rising}
-use Rattle.placing.proofs.Within.{Within, spotWithin, within, held-small}
+use Rattle.placing.proofs.Within.{AllWithin, spotWithin, within, biased-small}
 use Rattle.placing.proofs.Whole.{length-at}
 
 -- ---- as many stops, with the same colors in the same order
@@ -160,15 +160,15 @@ module _ (g : Gradient) (w h : ℕ) where
   rising-in = placed-rising (lengthOf (g .shape) w h) (stopsOf g)
 
   module _ (b : Box w h) (a : Accepted g) where
-    pub positions-within : Within furthest (positionsIn g w h)
+    pub positions-within : AllWithin furthest (positionsIn g w h)
     positions-within =
         let line : ℕ = lengthOf (g .shape) w h in
         let k : line ≤ longest = bounds .length (g .shape) w h b (a .shape) in
         rw positions-are (within furthest line (spotsOf line (stopsOf g)) (omega arith) (spots-within line (g .count) (g .stops) k (a .stops)))
 
-    -- held, they are small
-    pub held-within : (us : List ℕ) → map unheld (take (g .count) us) ≡ positionsIn g w h → (i : ℕ) → i < g .count → getD us i 0 ≤ 67108864
-    held-within us e i k = omega (arith, held-small furthest (g .count) us (rw e positions-within) i k)
+    -- biased, they are small
+    pub biased-within : (us : List ℕ) → map unbiased (take (g .count) us) ≡ positionsIn g w h → (i : ℕ) → i < g .count → getD us i 0 ≤ 67108864
+    biased-within us e i k = omega (arith, biased-small furthest (g .count) us (rw e positions-within) i k)
 
     pub placed-within : (i : ℕ) → natAbs (getD (placedIn g w h) i blankPlaced .position) ≤ furthest
     placed-within i = rw (← List·getD-map (λ (p : PlacedStop). p .position) (placedIn g w h) i blankPlaced) (positions-within i)

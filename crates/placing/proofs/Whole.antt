@@ -8,7 +8,7 @@ use native.Mathlib.Omega.{arith}
 use lib.IntN.{ℤ}
 use lib.ListN.{length, take, getD, set, replicate, length-map, length-append}
 use lib.Seq.{take-suc, length-take-le, set-at, append-snoc}
-use Rattle.numbers.specs.Held.{unheld}
+use Rattle.numbers.specs.Biased.{unbiased}
 use Rattle.gradient.specs.declared.Stop.{Stop}
 use Rattle.gradient.specs.Blank.{blankStop}
 use Rattle.stops.specs.declared.PlacedStop.{PlacedStop}
@@ -46,21 +46,21 @@ fill xs v i e h =
 -- a loop at index i: the stops before i are at their positions
 module _ (l : List Stop) (us : List ℕ) where
   abbrev pub upTo : ℕ → List PlacedStop
-  upTo i = atPositions (take i l) (map unheld (take i us))
+  upTo i = atPositions (take i l) (map unbiased (take i us))
 
   module _ (i : ℕ) (h : i ≤ length l) (h′ : i ≤ length us) where
-    same-lengths : length (map unheld (take i us)) ≡ length (take i l)
-    same-lengths = length-map (take i us) unheld ∙ length-take-le i us h′ ∙ sym (length-take-le i l h)
+    same-lengths : length (map unbiased (take i us)) ≡ length (take i l)
+    same-lengths = length-map (take i us) unbiased ∙ length-take-le i us h′ ∙ sym (length-take-le i l h)
 
     pub length-up-to : length (upTo i) ≡ i
-    length-up-to = length-at (take i l) (map unheld (take i us)) same-lengths ∙ length-take-le i l h
+    length-up-to = length-at (take i l) (map unbiased (take i us)) same-lengths ∙ length-take-le i l h
 
   pub attach-step : (out : List PlacedStop) (i : ℕ) → i < length l → i < length us → i < 16 → out ≡ listed (upTo i) .stops
-      → set out i (placedAt (getD l i blankStop) (unheld (getD us i 0))) ≡ listed (upTo (i + 1)) .stops
+      → set out i (placedAt (getD l i blankStop) (unbiased (getD us i 0))) ≡ listed (upTo (i + 1)) .stops
   attach-step out i h h′ k e =
       let s : Stop = getD l i blankStop in
-      let z : ℤ = unheld (getD us i 0) in
+      let z : ℤ = unbiased (getD us i 0) in
       let more : upTo i ++ (placedAt s z ∷ []) ≡ upTo (i + 1) =
-      sym (at-snoc (take i l) (map unheld (take i us)) s z (same-lengths i (omega arith) (omega arith)))
-      ∙ rw (add-one i, take-suc l i blankStop h, take-suc us i 0 h′, map-append unheld (take i us) (getD us i 0 ∷ [])) in
+      sym (at-snoc (take i l) (map unbiased (take i us)) s z (same-lengths i (omega arith) (omega arith)))
+      ∙ rw (add-one i, take-suc l i blankStop h, take-suc us i 0 h′, map-append unbiased (take i us) (getD us i 0 ∷ [])) in
       rw (e, fill (upTo i) (placedAt s z) i (length-up-to i (omega arith) (omega arith)) k, more)

@@ -9,17 +9,17 @@ use lib.IntN.{ℤ, pos, negsuc, natAbs}
 use lib.ListN.{take, getD}
 use lib.Signed.{leZ}
 use borrow.Author.Tests.{leb-true}
-use Rattle.numbers.specs.Held.{offset, unheld}
+use Rattle.numbers.specs.Biased.{bias, unbiased}
 use Rattle.numbers.specs.Fraction.{distance}
 use Rattle.numbers.proofs.Integers.{diff-abs}
 use Rattle.placing.specs.Spot.{Spot, unplaced, at}
 use Rattle.placing.specs.Fixup.{orAt, firstAt, lastAt, endsPlaced, maxℤ, raisedTo, raisedFrom, raised, next, run, between, spacedFrom, fixup}
-use Rattle.placing.specs.Held.{Ready}
+use Rattle.placing.specs.Represented.{Ready}
 use Rattle.placing.proofs.Between.{part-from, part-to}
 use Rattle.placing.proofs.Above.{ready}
 
-abbrev pub Within : ℕ → List ℤ → Type 0
-Within n zs = (i : ℕ) → natAbs (getD zs i (pos 0)) ≤ n
+abbrev pub AllWithin : ℕ → List ℤ → Type 0
+AllWithin n zs = (i : ℕ) → natAbs (getD zs i (pos 0)) ≤ n
 
 abbrev pub spotWithin : ℕ → Spot → Type 0
 spotWithin n unplaced = Unit {0}
@@ -80,7 +80,7 @@ module _ (n : ℕ) where
   next-within (unplaced ∷ l) h = next-within l (λ j. h (suc j))
   next-within (at p ∷ l) h = h 0
 
-  spaced-within : (A : ℤ) (m : ℕ) (l : List Spot) → natAbs A ≤ n → Ready A l → SpotsWithin n l → Within n (spacedFrom A m l)
+  spaced-within : (A : ℤ) (m : ℕ) (l : List Spot) → natAbs A ≤ n → Ready A l → SpotsWithin n l → AllWithin n (spacedFrom A m l)
   unfolding spacedFrom Ready
   spaced-within A m [] p r h i = omega arith
   spaced-within A m (at q ∷ l) p r h zero = h 0
@@ -90,14 +90,14 @@ module _ (n : ℕ) where
       squeeze n A (between A (next l) m k) (next l) (part-from A (next l) (r .0) m k (omega arith)) (part-to A (next l) (r .0) m k (omega arith) (omega arith)) p (next-within l (λ j. h (suc j)))
   spaced-within A m (unplaced ∷ l) p r h (suc i) = spaced-within A (m + 1) l p (r .1) (λ j. h (suc j)) i
 
-  pub within : (line : ℕ) (l : List Spot) → line ≤ n → SpotsWithin n l → Within n (fixup line l)
+  pub within : (line : ℕ) (l : List Spot) → line ≤ n → SpotsWithin n l → AllWithin n (fixup line l)
   within line l p h =
       spaced-within (pos 0) 1 (raised (endsPlaced line l)) (omega arith) (ready line l)
       (raised-within unplaced (endsPlaced line l) tt (last-within (pos line) (firstAt (pos 0) l) p (first-within (pos 0) l (omega arith) h)))
 
-  -- held, such positions are small
-  pub held-small : (k : ℕ) (us : List ℕ) → Within n (map unheld (take k us)) → (i : ℕ) → i < k → getD us i 0 ≤ offset + n
-  held-small zero us f i h = absurd (omega arith)
-  held-small (suc k) [] f i h = omega arith
-  held-small (suc k) (u ∷ us) f zero h = let d : distance u offset ≤ n = rw (← diff-abs u offset) (f 0) in omega arith
-  held-small (suc k) (u ∷ us) f (suc i) h = held-small k us (λ j. f (suc j)) i (omega arith)
+  -- biased, such positions are small
+  pub biased-small : (k : ℕ) (us : List ℕ) → AllWithin n (map unbiased (take k us)) → (i : ℕ) → i < k → getD us i 0 ≤ bias + n
+  biased-small zero us f i h = absurd (omega arith)
+  biased-small (suc k) [] f i h = omega arith
+  biased-small (suc k) (u ∷ us) f zero h = let d : distance u bias ≤ n = rw (← diff-abs u bias) (f 0) in omega arith
+  biased-small (suc k) (u ∷ us) f (suc i) h = biased-small k us (λ j. f (suc j)) i (omega arith)

@@ -2,5 +2,5 @@ pub mod Spot
 pub mod Fixup
 pub mod Placed
 pub mod Reply
-pub mod Held
+pub mod Represented
 pub mod Worked

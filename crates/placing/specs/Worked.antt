@@ -1,7 +1,6 @@
--- Stop fixup, on a line of 12,800 units (200 px), and the test of a box, worked out by computation.
+-- Stop fixup, on a line of 12,800 units (200 px), worked out by computation.
 -- Assumes nothing.
 use mathlib.Core.Path.{_≡_, refl}
-use mathlib.Core.Bool.{true, false}
 use mathlib.Core.List.{List, [], _∷_, map}
 use lib.IntN.{ℤ, pos, negsuc}
 use Rattle.numbers.specs.Floor.{floorDiv}
@@ -10,7 +9,6 @@ use Rattle.gradient.specs.declared.Position.{Position}
 use Rattle.gradient.specs.declared.Position.the-variants as P
 use Rattle.placing.specs.Spot.{spotOf}
 use Rattle.placing.specs.Fixup.{firstAt, lastAt, raisedFrom, next, run, spacedFrom, fixup}
-use Rattle.placing.specs.Reply.{boxIn}
 
 abbrev on200px : List Position → List ℤ
 on200px l = fixup 12800 (map (spotOf 12800) l)
@@ -25,8 +23,3 @@ pub p4-p8 :
     × (on200px (P.Length (negsuc 49999) ∷ P.Auto ∷ P.Auto ∷ []) ≡ negsuc 3199 ∷ pos 4800 ∷ pos 12800 ∷ [])
 unfolding toUnit floorDiv firstAt lastAt raisedFrom next run spacedFrom
 p4-p8 = (refl, refl, refl, refl, refl)
-
--- 2,048 is taken, 2,049 and 0 are not
-boxes : (boxIn 2048 2048 ≡ true) × (boxIn 2049 1 ≡ false) × (boxIn 1 2049 ≡ false) × (boxIn 0 1 ≡ false)
-unfolding boxIn
-boxes = (refl, refl, refl, refl)

@@ -1,8 +1,8 @@
-// From a gradient and a box to placed stops. Positions are held inside as unsigned numbers of units, 2^25 above, and 0 stands for a stop that
-// is not placed.
+// From a gradient and a box to placed stops. Inside, positions are biased, and 0 stands for a stop that is not placed.
 use gradient::Gradient;
 use gradient::Position;
 use gradient::Stop;
+use replies::DONE;
 use stops::PlacedStop;
 use stops::PlacedStops;
 ghost use mathlib.Core.Path.{_≡_};
@@ -11,7 +11,7 @@ ghost use mathlib.Core.List.{map};
 ghost use Prim.Native.Nat.{ℕ, _+_, _≤_, _<_, max};
 ghost use lib.IntN.{pos};
 ghost use lib.ListN.{length, take, drop, getD};
-ghost use Rattle.numbers.specs.Held.{unheld};
+ghost use Rattle.numbers.specs.Biased.{twiceBias, unbiased};
 ghost use Rattle.gradient.specs.Blank.{blankStop};
 ghost use Rattle.gradient.specs.Range.{positionIn, stopIn};
 ghost use Rattle.gradient.specs.Check.{Accepted};
@@ -20,8 +20,8 @@ ghost use Rattle.line.specs.Bounds.{longest};
 ghost use Rattle.placing.specs.Spot.{spotOf};
 ghost use Rattle.placing.specs.Fixup.{orAt, endsPlaced, raised, between, spaced, fixup};
 ghost use Rattle.placing.specs.Placed.{spotsOf, placedAt, atPositions, placedIn, positionsIn, listed};
-ghost use Rattle.placing.specs.Reply.{boxIn, placeReply, placeOf};
-ghost use Rattle.placing.specs.Held.{spot, raisedHeld, Ready, Follows, spacedSoFar, Spacing};
+ghost use Rattle.placing.specs.Reply.{placeReply, placeOf};
+ghost use Rattle.placing.specs.Represented.{spot, raisedBiased, Ready, Follows, spacedSoFar, Spacing};
 
 // The reply, and the placed stops where it is 0.
 pub struct Placing {
@@ -70,7 +70,7 @@ fn list_units(stops: [Stop; 16], n: usize, line: u32) -> [u32; 16]
 
 fn or_at(p: u32, z: u32) -> u32
     requires { ⌜ 0 < z ⌝ }
-    ensures { λ r. ⌜ spot r ≡ orAt (unheld z) (spot p) ⌝ }
+    ensures { λ r. ⌜ spot r ≡ orAt (unbiased z) (spot p) ⌝ }
 {
     if p == 0 { z } else { p }
 }
@@ -80,10 +80,10 @@ fn place_ends(ps: &mut [u32], line: u32)
     ensures { λ r. ⌜ map spot (now (ps .exit)) ≡ endsPlaced line (map spot (now (ps .entry))) ⌝ }
 {
     let first = ps[0];
-    ps[0] = or_at(first, 33554432);
+    ps[0] = or_at(first, numbers::BIAS);
     let n = ps.len() - 1;
     let last = ps[n];
-    ps[n] = or_at(last, line + 33554432);
+    ps[n] = or_at(last, line + numbers::BIAS);
 }
 
 // ---- (b): a placed stop below the greatest earlier placed stop is raised to it
@@ -95,7 +95,7 @@ fn greater(a: u32, b: u32) -> u32
 }
 
 fn raised_to(p: u32, g: u32) -> u32
-    ensures { λ r. ⌜ r ≡ raisedHeld p g ⌝ }
+    ensures { λ r. ⌜ r ≡ raisedBiased p g ⌝ }
 {
     if p == 0 { 0 } else { greater(g, p) }
 }
@@ -137,7 +137,7 @@ fn next_placed(ps: &[u32], from: usize) -> Next
         i += 1;
     }
     Next {
-        at: 33554432,
+        at: numbers::BIAS,
         run: i - from,
     }
 }
@@ -145,7 +145,7 @@ fn next_placed(ps: &[u32], from: usize) -> Next
 // The position m parts of k on the way from a to b.
 fn part_way(a: u32, b: u32, m: usize, k: usize) -> u32
     requires { ⌜ (a ≤ b) × (m < k) × (k ≤ 64) ⌝ }
-    ensures { λ r. ⌜ unheld r ≡ between (unheld a) (unheld b) m k ⌝ }
+    ensures { λ r. ⌜ unbiased r ≡ between (unbiased a) (unbiased b) m k ⌝ }
 {
     let d = numbers::round(((b - a) as u64) * (m as u64), k as u64);
     a + (d as u32)
@@ -153,8 +153,8 @@ fn part_way(a: u32, b: u32, m: usize, k: usize) -> u32
 
 // The n unplaced stops from `from` on, spaced evenly between a and b.
 fn space_run(ps: &mut [u32], from: usize, n: usize, a: u32, b: u32)
-    requires { ⌜ (length (now ps) ≤ 16) × Follows (drop from (now ps)) b n × Ready (unheld a) (map spot (drop from (now ps))) ⌝ }
-    ensures { λ r. ⌜ Spacing (spacedSoFar (unheld a) 1 from (now (ps .entry))) a b (n + 1) (n + 1) (from + n) (now (ps .exit)) ⌝ }
+    requires { ⌜ (length (now ps) ≤ 16) × Follows (drop from (now ps)) b n × Ready (unbiased a) (map spot (drop from (now ps))) ⌝ }
+    ensures { λ r. ⌜ Spacing (spacedSoFar (unbiased a) 1 from (now (ps .entry))) a b (n + 1) (n + 1) (from + n) (now (ps .exit)) ⌝ }
 {
     let mut j: usize = 0;
     while j < n {
@@ -166,9 +166,9 @@ fn space_run(ps: &mut [u32], from: usize, n: usize, a: u32, b: u32)
 // Each turn spaces the unplaced stops before the next placed one, and goes on after that.
 fn space_stops(ps: &mut [u32])
     requires { ⌜ (length (now ps) ≤ 16) × Ready (pos 0) (map spot (now ps)) ⌝ }
-    ensures { λ r. ⌜ map unheld (now (ps .exit)) ≡ spaced (map spot (now (ps .entry))) ⌝ }
+    ensures { λ r. ⌜ map unbiased (now (ps .exit)) ≡ spaced (map spot (now (ps .entry))) ⌝ }
 {
-    let mut a: u32 = 33554432;
+    let mut a: u32 = numbers::BIAS;
     let mut i: usize = 0;
     while i < ps.len() {
         let t = next_placed(ps, i);
@@ -183,7 +183,7 @@ fn space_stops(ps: &mut [u32])
 // Steps (a) to (c).
 fn fix_up(ps: &mut [u32], line: u32)
     requires { ⌜ (0 < length (now ps)) × (length (now ps) ≤ 16) × (line ≤ longest) ⌝ }
-    ensures { λ r. ⌜ map unheld (now (ps .exit)) ≡ fixup line (map spot (now (ps .entry))) ⌝ }
+    ensures { λ r. ⌜ map unbiased (now (ps .exit)) ≡ fixup line (map spot (now (ps .entry))) ⌝ }
 {
     place_ends(ps, line);
     raise_stops(ps);
@@ -191,20 +191,20 @@ fn fix_up(ps: &mut [u32], line: u32)
 }
 
 fn placed_stop(s: Stop, u: u32) -> PlacedStop
-    requires { ⌜ u ≤ 67108864 ⌝ }
-    ensures { λ r. ⌜ r ≡ placedAt s (unheld u) ⌝ }
+    requires { ⌜ u ≤ twiceBias ⌝ }
+    ensures { λ r. ⌜ r ≡ placedAt s (unbiased u) ⌝ }
 {
     let color = s.color;
     PlacedStop {
         color: color,
-        position: numbers::release(u),
+        position: numbers::unbiased(u),
     }
 }
 
 // The first n stops at the first n positions.
 fn attach(stops: [Stop; 16], ps: [u32; 16], n: usize) -> PlacedStops
-    requires { ⌜ (n ≤ 16) × ((i : ℕ) → i < n → getD ps i 0 ≤ 67108864) ⌝ }
-    ensures { λ r. ⌜ r ≡ listed (atPositions (take n stops) (map unheld (take n ps))) ⌝ }
+    requires { ⌜ (n ≤ 16) × ((i : ℕ) → i < n → getD ps i 0 ≤ twiceBias) ⌝ }
+    ensures { λ r. ⌜ r ≡ listed (atPositions (take n stops) (map unbiased (take n ps))) ⌝ }
 {
     let mut out = [stops::blank_placed(); 16];
     let mut i: usize = 0;
@@ -219,10 +219,10 @@ fn attach(stops: [Stop; 16], ps: [u32; 16], n: usize) -> PlacedStops
     }
 }
 
-// The positions of a gradient's stops in a box, held, in the first places.
-pub fn positions_in_box(g: Gradient, w: usize, h: usize) -> [u32; 16]
+// The positions of a gradient's stops in a box, biased, in the first places.
+fn positions_in_box(g: Gradient, w: usize, h: usize) -> [u32; 16]
     requires { ⌜ Box w h × Accepted g ⌝ }
-    ensures { λ r. ⌜ map unheld (take (g .count) r) ≡ positionsIn g w h ⌝ }
+    ensures { λ r. ⌜ map unbiased (take (g .count) r) ≡ positionsIn g w h ⌝ }
 {
     let shape = g.shape;
     let line = line::line_length(shape, w, h);
@@ -243,18 +243,12 @@ pub fn place_in_box(g: Gradient, w: usize, h: usize) -> PlacedStops
     attach(stops, positions_in_box(g, w, h), n)
 }
 
-// Whether a box is from 1 to 2,048 pixels wide and high.
-pub fn box_in(w: usize, h: usize) -> bool
-    ensures { λ r. ⌜ r ≡ boxIn w h ⌝ }
-{
-    1 <= w && (w <= 2048 && (1 <= h && h <= 2048))
-}
-
 fn place_reply(g: Gradient, w: usize, h: usize) -> u32
     ensures { λ r. ⌜ r ≡ placeReply g w h ⌝ }
 {
-    if !box_in(w, h) {
-        return 1;
+    let r = replies::box_reply(w, h);
+    if r != DONE {
+        return r;
     }
     gradient::check(g)
 }
@@ -264,7 +258,7 @@ pub fn place(g: Gradient, w: usize, h: usize) -> Placing
     ensures { λ r. ⌜ r ≡ placeOf g w h ⌝ }
 {
     let reply = place_reply(g, w, h);
-    if reply != 0 {
+    if reply != DONE {
         return Placing {
             reply: reply,
             stops: stops::no_stops(),

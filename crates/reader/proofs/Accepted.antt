@@ -9,17 +9,18 @@ use lib.Dec.{ltb}
 use lib.ListN.{length, replicate, List·getD-append}
 use lib.Seq.{take-all, drop-append-seam}
 use borrow.Author.Tests.{ltb-false, not-false}
+use Rattle.replies.specs.Replies.{longText, given}
+use Rattle.replies.proofs.Laws.{orElse-zero, given-zero}
 use Rattle.text.specs.Text.{Read, got, refused, isSpace, past}
 use Rattle.text.proofs.Laws.{Gets}
 use Rattle.tokens.specs.Number.{exact}
 use Rattle.gradient.specs.declared.Stop.{Stop}
-use Rattle.gradient.specs.Replies.{given}
 use Rattle.gradient.specs.Lists.{all}
 use Rattle.gradient.specs.Blank.{blankStop, isBlank}
 use Rattle.gradient.specs.Range.{shapeIn, stopIn}
 use Rattle.gradient.specs.Check.{Accepted, blankPast, checkOf}
 use Rattle.gradient.proofs.Lists.{all-at, all-copies}
-use Rattle.gradient.proofs.Laws.{orElse-zero, given-zero, accepting}
+use Rattle.gradient.proofs.Laws.{accepting}
 use Rattle.stoplist.specs.Stops.{twoStopsOf}
 use Rattle.stoplist.specs.View.{places}
 use Rattle.stoplist.proofs.Cut.{two-more}
@@ -62,4 +63,4 @@ judged refused two e = absurd (omega arith)
 
 pub read-accepted : (text : List ℕ) → readOf text .reply ≡ 0 → checkOf (readOf text .gradient) ≡ 0
 unfolding readOf readReply
-read-accepted text e = rw e (judged (gradientOf exact text) (carried Two exact two-read (past isSpace text)) (orElse-zero (given (ltb 1024 (length text)) 3) (grammarReply (gradientOf exact text)) e .1))
+read-accepted text e = rw e (judged (gradientOf exact text) (carried Two exact two-read (past isSpace text)) (orElse-zero (given (ltb 1024 (length text)) longText) (grammarReply (gradientOf exact text)) e .1))

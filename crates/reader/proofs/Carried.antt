@@ -11,7 +11,7 @@ use Rattle.gradient.specs.declared.Direction.the-variants as D
 use Rattle.gradient.specs.declared.Shape.{Shape}
 use Rattle.gradient.specs.declared.Shape.the-variants as Sh
 use Rattle.gradient.specs.declared.Stop.{Stop}
-use Rattle.heads.specs.Direction.{directionOf}
+use Rattle.directions.specs.Direction.{directionOf}
 use Rattle.circles.specs.Circle.{radialOf}
 use Rattle.stoplist.specs.Stops.{itemsOf, twoStopsOf}
 use Rattle.reader.specs.declared.Kind.{Kind}

@@ -19,8 +19,8 @@ use Rattle.gradient.specs.declared.Stop.{Stop}
 use Rattle.gradient.specs.Lists.{all}
 use Rattle.gradient.specs.Blank.{blankGradient}
 use Rattle.gradient.specs.Range.{shapeIn, stopIn}
-use Rattle.heads.specs.Direction.{directionOf}
-use Rattle.heads.proofs.Cut.{cutDirection, direction-cut}
+use Rattle.directions.specs.Direction.{directionOf}
+use Rattle.directions.proofs.Cut.{cutDirection, direction-cut}
 use Rattle.circles.specs.Circle.{radialOf}
 use Rattle.circles.proofs.Cut.{cutShape, radial-cut, shape-in-cut, shape-kept}
 use Rattle.stoplist.specs.Stops.{itemsOf, twoStopsOf}

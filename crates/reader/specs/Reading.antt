@@ -5,10 +5,10 @@ use mathlib.Core.Bool.{Bool, cond, not, _&&_}
 use mathlib.Core.List.{List}
 use lib.Dec.{eqb, ltb}
 use lib.ListN.{length}
+use Rattle.replies.specs.Replies.{longText, malformed, outOfRange, tooManyStops, given, _orElse_}
 use Rattle.text.specs.Text.{Read, got, refused}
 use Rattle.tokens.specs.Number.{exact}
 use Rattle.gradient.specs.declared.Gradient.{Gradient}
-use Rattle.gradient.specs.Replies.{given, _orElse_}
 use Rattle.gradient.specs.Lists.{all}
 use Rattle.gradient.specs.Blank.{blankGradient}
 use Rattle.gradient.specs.Range.{shapeIn, stopIn}
@@ -22,16 +22,16 @@ writtenIn w = shapeIn (w .shape) && all stopIn (w .stops)
 
 -- a number out of its range: 5; more than 16 stops: 6
 abbrev pub writtenReply : Written → ℕ
-writtenReply w = given (not (writtenIn w)) 5 orElse given (ltb 16 (length (w .stops))) 6
+writtenReply w = given (not (writtenIn w)) outOfRange orElse given (ltb 16 (length (w .stops))) tooManyStops
 
 -- the text is not in the grammar: 4
 abbrev pub grammarReply : Read Written → ℕ
 grammarReply (got w _) = writtenReply w
-grammarReply refused = 4
+grammarReply refused = malformed
 
 -- longer than 1,024 bytes: 3
 unfoldable pub readReply : List ℕ → ℕ
-readReply text = given (ltb 1024 (length text)) 3 orElse grammarReply (gradientOf exact text)
+readReply text = given (ltb 1024 (length text)) longText orElse grammarReply (gradientOf exact text)
 
 abbrev pub valueOf : Written → Gradient
 valueOf w = record { shape = w .shape; count = length (w .stops); stops = places (w .stops) }

@@ -13,7 +13,7 @@ use Rattle.gradient.specs.declared.Shape.the-variants as Sh
 use Rattle.gradient.specs.declared.Stop.{Stop}
 use Rattle.reader.specs.declared.Kind.{Kind}
 use Rattle.reader.specs.declared.Kind.the-variants as K
-use Rattle.heads.specs.Direction.{directionOf}
+use Rattle.directions.specs.Direction.{directionOf}
 use Rattle.circles.specs.Circle.{radialOf}
 use Rattle.stoplist.specs.Stops.{itemsOf, twoStopsOf}
 

@@ -6,13 +6,13 @@ use mathlib.Core.Bool.{true, false, cond, not}
 use mathlib.Core.List.{List, []}
 use lib.Dec.{ltb}
 use lib.ListN.{length, take, drop}
+use Rattle.replies.specs.Replies.{malformed, outOfRange, tooManyStops, given, _orElse_}
 use Rattle.text.specs.Text.{Read, got, refused}
 use Rattle.gradient.specs.declared.Side.the-variants as S
 use Rattle.gradient.specs.declared.Direction.the-variants as D
 use Rattle.gradient.specs.declared.Shape.{Shape}
 use Rattle.gradient.specs.declared.Shape.the-variants as Sh
 use Rattle.gradient.specs.declared.Gradient.{Gradient}
-use Rattle.gradient.specs.Replies.{given, _orElse_}
 use Rattle.gradient.specs.Range.{shapeIn}
 use Rattle.stoplist.specs.declared.Listing.{Listing}
 use Rattle.stoplist.specs.View.{listOf, blankList}
@@ -58,10 +58,10 @@ drafted shape l = cond (l .found) (record { found = true; shape = shape; list = 
 -- the reply to a draft, and the value that it holds
 unfoldable pub draftReply : Draft → ℕ
 draftReply d =
-    given (not (d .found)) 4
-    orElse given (not (shapeIn (d .shape))) 5
-    orElse given (d .list .wide) 5
-    orElse given (ltb 16 (d .list .count)) 6
+    given (not (d .found)) malformed
+    orElse given (not (shapeIn (d .shape))) outOfRange
+    orElse given (d .list .wide) outOfRange
+    orElse given (ltb 16 (d .list .count)) tooManyStops
 
 abbrev pub draftValue : Draft → Gradient
 draftValue d = record { shape = d .shape; count = d .list .count; stops = d .list .stops }

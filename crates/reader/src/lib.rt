@@ -1,10 +1,15 @@
 // From the text of a gradient to its value.
 use circles::ShapeRead;
+use directions::DirectionRead;
 use gradient::Direction;
 use gradient::Gradient;
 use gradient::Shape;
 use gradient::Side;
-use heads::DirectionRead;
+use replies::DONE;
+use replies::LONG_TEXT;
+use replies::MALFORMED;
+use replies::OUT_OF_RANGE;
+use replies::TOO_MANY_STOPS;
 use stoplist::Listing;
 use stoplist::StopList;
 use text::Cursor;
@@ -14,9 +19,9 @@ ghost use lib.ListN.{drop};
 ghost use Rattle.text.specs.Text.{wholeOf};
 ghost use Rattle.tokens.specs.Number.{cut};
 ghost use Rattle.gradient.specs.Blank.{blankGradient};
-ghost use Rattle.heads.specs.Direction.{directionOf};
+ghost use Rattle.directions.specs.Direction.{directionOf};
 ghost use Rattle.circles.specs.Circle.{radialOf};
-ghost use Rattle.heads.specs.View.{viewDirection};
+ghost use Rattle.directions.specs.View.{viewDirection};
 ghost use Rattle.circles.specs.View.{viewShape};
 ghost use Rattle.reader.specs.Text.{linearOf, circularOf, ofKind, kindOf, functionOf};
 ghost use Rattle.reader.specs.Reading.{answered, readOf};
@@ -57,7 +62,7 @@ fn whole_direction(item: &[u8]) -> DirectionRead
     ensures { λ r. ⌜ viewDirection (now (item .entry)) r ≡ wholeOf (directionOf cut) (now (item .entry)) ⌝ }
 {
     let start = text::skip_space(item, Cursor { at: 0 });
-    let DirectionRead::Got(d, e) = heads::read_direction(item, start) else {
+    let DirectionRead::Got(d, e) = directions::read_direction(item, start) else {
         return DirectionRead::Refused;
     };
     let k = text::skip_space(item, e);
@@ -192,17 +197,21 @@ fn draft_reply(d: Draft) -> u32
     ensures { λ r. ⌜ r ≡ draftReply d ⌝ }
 {
     if !d.found {
-        return 4;
+        return MALFORMED;
     }
     let shape = d.shape;
     let list = d.list;
     if !gradient::shape_in(shape) {
-        return 5;
+        return OUT_OF_RANGE;
     }
     if list.wide {
-        return 5;
+        return OUT_OF_RANGE;
     }
-    if 16 < list.count { 6 } else { 0 }
+    if 16 < list.count {
+        TOO_MANY_STOPS
+    } else {
+        DONE
+    }
 }
 
 fn refuse(reply: u32) -> Reading
@@ -219,14 +228,14 @@ fn conclude(d: Draft) -> Reading
     ensures { λ r. ⌜ r ≡ concluded d ⌝ }
 {
     let reply = draft_reply(d);
-    if reply != 0 {
+    if reply != DONE {
         return refuse(reply);
     }
     let shape = d.shape;
     let list = d.list;
     let stops = list.stops;
     Reading {
-        reply: 0,
+        reply: DONE,
         gradient: Gradient {
             shape: shape,
             count: list.count,
@@ -240,7 +249,7 @@ pub fn read(s: &[u8]) -> Reading
     ensures { λ r. ⌜ r ≡ readOf (now (s .entry)) ⌝ }
 {
     if 1024 < s.len() {
-        return refuse(3);
+        return refuse(LONG_TEXT);
     }
     conclude(read_function(s, text::skip_space(s, Cursor { at: 0 })))
 }

@@ -60,7 +60,7 @@ fn draw_in(w: usize, h: usize, name: usize, raw: bool)
         return;
     };
     let reading = reader::read(&text[..n]);
-    if reading.reply != 0 {
+    if reading.reply != replies::DONE {
         say::reply(STDERR_FILENO, reading.reply);
         return;
     }
@@ -82,10 +82,10 @@ fn draw(first: usize, raw: bool)
     let Number::Is(h) = number_argument(first + 1) else {
         return;
     };
-    if placing::box_in(w, h) {
+    if replies::box_in(w, h) {
         draw_in(w, h, first + 2, raw);
     } else {
-        say::reply(STDERR_FILENO, 1);
+        say::reply(STDERR_FILENO, replies::BAD_BOX);
     }
 }
 

@@ -1,5 +1,11 @@
 // What the program says.
 use libc::STDERR_FILENO;
+use replies::BAD_BOX;
+use replies::DONE;
+use replies::LONG_TEXT;
+use replies::MALFORMED;
+use replies::OUT_OF_RANGE;
+use replies::TOO_MANY_STOPS;
 
 fn say(fd: i32, s: &[u8]) {
     io::write_all(fd, s);
@@ -39,36 +45,36 @@ pub fn no_number(word: &[u8]) {
 pub fn reply(fd: i32, n: u32) {
     io::print_decimal(fd, n as u64);
     match n {
-        0 => say(fd, b": accepted\n"),
-        1 => say(
+        DONE => say(fd, b": accepted\n"),
+        BAD_BOX => say(
             fd,
             b": width or height outside 1 to 2,048
   wrong: a box of 0 by 5
   right: a box of 1 by 5
 ",
         ),
-        3 => say(
+        LONG_TEXT => say(
             fd,
             b": the text is longer than 1,024 bytes
   wrong: 1,025 bytes, even if the last is a blank
   right: no more blanks than are needed
 ",
         ),
-        4 => say(
+        MALFORMED => say(
             fd,
             b": the text is not in the grammar
   wrong: linear-gradient(red)
   right: linear-gradient(red, blue)
 ",
         ),
-        5 => say(
+        OUT_OF_RANGE => say(
             fd,
             b": a number is out of its range
   wrong: linear-gradient(45.1deg, red, blue)
   right: linear-gradient(45.25deg, red, blue)
 ",
         ),
-        6 => say(
+        TOO_MANY_STOPS => say(
             fd,
             b": more than 16 stops
   wrong: seventeen colors between commas

@@ -4,29 +4,16 @@ use mathlib.Core.Path.{_≡_, refl, ap, _∙_}
 use mathlib.Core.List.{List}
 use Prim.Native.Nat.{ℕ, _+_, _-_, _*_, _≤_, _<_}
 use native.Mathlib.Omega.{arith}
-use lib.IntN.{pos}
 use lib.ListN.{length}
-use Rattle.numbers.specs.Held.{offset, unheld}
-use Rattle.numbers.proofs.Integers.{held-count}
-use Rattle.line.specs.Location.{locationBy}
-use Rattle.line.specs.Held.{ruleIn}
 use Rattle.line.specs.declared.Line.{Line}
-use Rattle.color.specs.declared.Rgba.{Rgba}
-use Rattle.color.specs.Byte.{bytes, colorAt}
-use Rattle.color.specs.Lent.{stopsOf}
 use Rattle.picture.specs.Picture.{row, strip, patched}
 use Rattle.picture.proofs.Rows.{row-length, strip-more, strip-length, times-room}
 use Rattle.picture.proofs.Patches.{patch-step}
-use Rattle.rows.specs.Pixel.{lentPixel}
-
--- the color that the code finds at a pixel's location is the pixel
-pub pixel-is : (ps vs : List ℕ) (l : Line) (w h i j q : ℕ) (p : Rgba) → q ≡ locationBy (ruleIn l w h) i j
-    → p ≡ colorAt (stopsOf ps vs) (unheld (offset + q)) → bytes p ≡ lentPixel ps vs l w h i j
-pixel-is ps vs l w h i j q p e f = ap bytes (f ∙ ap (colorAt (stopsOf ps vs)) (held-count offset q ∙ ap pos e))
+use Rattle.rows.specs.Pixel.{rampPixel}
 
 -- four bytes to a pixel
-pub four : (ps vs : List ℕ) (l : Line) (w h i j : ℕ) → length (lentPixel ps vs l w h i j) ≡ 4
-four ps vs l w h i j = refl
+pub four : (ramp : List ℕ) (l : Line) (w h i j : ℕ) → length (rampPixel ramp l w h i j) ≡ 4
+four ramp l w h i j = refl
 
 -- a turn of a loop over rows from a on: row j is put behind the rows up to j
 pub rows-turn : (px : ℕ → ℕ → List ℕ) → ((i j : ℕ) → length (px i j) ≡ 4) → (w a b j o : ℕ) (d c c′ r : List ℕ) → a ≤ j → j < b → o ≡ 4 * w * (j - a)

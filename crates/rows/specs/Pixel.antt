@@ -1,35 +1,48 @@
--- The bytes of a pixel, and what the code that draws rows is handed.
+-- The bytes of a pixel and of a strip, and what is asked of a line, a strip and its buffer.
 -- Assumes nothing.
 use mathlib.Core.List.{List}
 use Prim.Native.Nat.{ℕ, _-_, _*_, _≤_, _<_}
 use lib.IntN.{pos}
 use Rattle.line.specs.Box.{Box}
 use Rattle.line.specs.Location.{Rule, locationBy}
-use Rattle.line.specs.Held.{Sound, ruleIn}
+use Rattle.line.specs.Represented.{Sound, ruleIn}
 use Rattle.line.specs.declared.Line.{Line}
 use Rattle.color.specs.Stop.{Stop}
 use Rattle.color.specs.Byte.{bytes, colorAt}
-use Rattle.color.specs.Lent.{Lent, stopsOf}
+use Rattle.picture.specs.Picture.{strip}
+use Rattle.words.specs.Word.{wordBytes}
+use Rattle.ramp.specs.Ramp.{colorIn, Stops}
+use Rattle.rows.specs.declared.Strip.{Strip}
 
--- the bytes of pixel (i, j): the color of its location
+-- the bytes of pixel (i, j): the color at its location
 abbrev pub pixelOf : Rule → List Stop → ℕ → ℕ → List ℕ
 pixelOf rule stops i j = bytes (colorAt stops (pos (locationBy rule i j)))
 
--- a line that can be drawn along in a box
+-- .. where `color` gives the color of a location as a word
+abbrev pub pixelBy : Rule → (ℕ → ℕ) → ℕ → ℕ → List ℕ
+pixelBy rule color i j = wordBytes (color (locationBy rule i j))
+
+-- .. where a ramp gives it
+abbrev pub rampPixel : List ℕ → Line → ℕ → ℕ → ℕ → ℕ → List ℕ
+rampPixel ramp l w h = pixelBy (ruleIn l w h) (colorIn ramp)
+
+-- the bytes of a strip, colored by a ramp
+abbrev pub stripOf : List ℕ → Line → Strip → List ℕ
+stripOf ramp l z = strip (rampPixel ramp l (z .w) (z .h)) (z .w) (z .a) (z .b)
+
+-- a box, and a line that can be drawn along in it
 pub record Placed (l : Line) (w h : ℕ) : Type 0 where
   pub box : Box w h
   pub sound : Sound l
 
--- and the stops of it, lent as two slices
-pub record Drawable (ps vs : List ℕ) (l : Line) (w h : ℕ) : Type 0 where
-  pub placed : Placed l w h
-  pub lent : Lent ps vs
+-- a strip has a row or more, within its box, and n bytes hold them
+pub record Rows (z : Strip) (n : ℕ) : Type 0 where
+  pub some : z .a < z .b
+  pub within : z .b ≤ z .h
+  pub room : 4 * z .w * (z .b - z .a) ≤ n
 
--- rows a up to b of a box, one at least, and n bytes that they fit into
-pub record Strip (w h a b n : ℕ) : Type 0 where
-  pub some : a < b
-  pub within : b ≤ h
-  pub room : 4 * w * (b - a) ≤ n
-
-abbrev pub lentPixel : List ℕ → List ℕ → Line → ℕ → ℕ → ℕ → ℕ → List ℕ
-lentPixel ps vs l w h = pixelOf (ruleIn l w h) (stopsOf ps vs)
+-- stops, a line, and a strip with n bytes for it
+pub record Drawable (rp : List ℕ) (l : Line) (z : Strip) (n : ℕ) : Type 0 where
+  pub stops : Stops rp
+  pub placed : Placed l (z .w) (z .h)
+  pub rows : Rows z n

@@ -9,13 +9,13 @@ use native.Mathlib.Omega.{arith}
 use lib.Dec.{leb}
 use lib.ListN.{length}
 use borrow.Author.Tests.{leb-true, lt-leb}
-use Rattle.sine.specs.Sines.{sines, sineOf, Within, Rules, Parts}
+use Rattle.sine.specs.Sines.{sines, sineOf, AtMostApart, Rules, Parts}
 use Rattle.sine.proofs.Table.{both, every, at}
 
 within : ℕ → ℕ → ℕ → Bool
 within d a b = leb (a - b + (b - a)) d
 
-within-is : {d a b : ℕ} → within d a b ≡ true → Within d a b
+within-is : {d a b : ℕ} → within d a b ≡ true → AtMostApart d a b
 unfolding within
 within-is {d} {a} {b} e =
     let h = leb-true (a - b + (b - a)) d e in
@@ -82,7 +82,7 @@ squares a b = either (decLe a b)
         omega (arith, rw (add-sub-of-le h) at (by b (a - b)))
 
 -- two numbers whose squares are as the rule of the circle has them
-module _ (a b : ℕ) (near : Within 24000 (a * a + b * b) (2 ^ 28)) where
+module _ (a b : ℕ) (near : AtMostApart 24000 (a * a + b * b) (2 ^ 28)) where
   most : a + b ≤ 23171
   most = either (decLe (a + b) 23171)
     where

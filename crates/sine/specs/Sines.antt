@@ -45,7 +45,7 @@ unfoldable pub sineOf : ℕ → ℕ
 sineOf k = getD sines k 0
 
 -- a and b are at most d apart
-pub record Within (d a b : ℕ) : Type 0 where
+pub record AtMostApart (d a b : ℕ) : Type 0 where
   pub up : a ≤ b + d
   pub down : b ≤ a + d
 
@@ -58,9 +58,9 @@ pub record Rules : Type 0 where
   -- "it never falls"
   pub never-falls : (k : ℕ) → k < 360 → sineOf k ≤ sineOf (k + 1)
   -- "entry k squared plus entry 360−k squared is within 24,000 of 2^28"
-  pub circle : (k : ℕ) → k ≤ 360 → Within 24000 (sineOf k * sineOf k + sineOf (360 - k) * sineOf (360 - k)) (2 ^ 28)
+  pub circle : (k : ℕ) → k ≤ 360 → AtMostApart 24000 (sineOf k * sineOf k + sineOf (360 - k) * sineOf (360 - k)) (2 ^ 28)
   -- "16,384·s(k+1) differs from s(k)·s(359) + s(360−k)·s(1) by at most 32,768"
-  pub turn : (k : ℕ) → k < 360 → Within 32768 (16384 * sineOf (k + 1)) (sineOf k * sineOf 359 + sineOf (360 - k) * sineOf 1)
+  pub turn : (k : ℕ) → k < 360 → AtMostApart 32768 (16384 * sineOf (k + 1)) (sineOf k * sineOf 359 + sineOf (360 - k) * sineOf 1)
 
 -- Not rules of the document: what the callers use of the entries at k and 360 - k, the two parts of a direction's vector.
 pub record Parts (k : ℕ) : Type 0 where

@@ -17,7 +17,7 @@ use Rattle.gradient.specs.declared.Position.the-variants as P
 use Rattle.gradient.specs.declared.Stop.{Stop}
 use Rattle.gradient.specs.Blank.{blankColor, blankStop}
 use Rattle.gradient.specs.Bytes.{ColorBytes, StopBytes}
-use Rattle.stoplist.specs.Stops.{stop, positionOf, stopOf, stopsOf, twoStopsOf}
+use Rattle.stoplist.specs.Stops.{stop, stopPositionOf, stopOf, stopsOf, twoStopsOf}
 use Rattle.stoplist.specs.View.{places}
 
 -- ---- lists of stops
@@ -50,7 +50,7 @@ OneBytes s = ColorBytes (s .color)
 
 stop-bytes : (keep : ℤ → ℤ) (l : List ℕ) → Gets OneBytes (stopOf keep l)
 unfolding stopOf
-stop-bytes keep l = gets-bind ColorBytes OneBytes _ (λ v k b. by-position v k b (afterGap (positionOf keep) k)) (colorOf l) (color-bytes l)
+stop-bytes keep l = gets-bind ColorBytes OneBytes _ (λ v k b. by-position v k b (afterGap (stopPositionOf keep) k)) (colorOf l) (color-bytes l)
   where
     by-position : (v : Color) (k : List ℕ) → ColorBytes v → (r : Read Position) → Gets OneBytes ((r >>= λ p e. got (stop v p) e) orRead got (stop v P.Auto) k)
     by-position v k b (got p e) = b

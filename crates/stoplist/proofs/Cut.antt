@@ -21,7 +21,7 @@ use Rattle.tokens.specs.Color.{colorOf}
 use Rattle.tokens.specs.declared.Unit.{Unit}
 use Rattle.tokens.specs.declared.Unit.the-variants as U
 use Rattle.tokens.proofs.Cut.{number-cut, length-cut, percentage-cut, length-kept, percentage-kept}
-use Rattle.stoplist.specs.Stops.{stop, asPosition, positionOf, stopOf, stopsOf, twoStopsOf}
+use Rattle.stoplist.specs.Stops.{stop, asPosition, stopPositionOf, stopOf, stopsOf, twoStopsOf}
 use Rattle.text.proofs.Whole.{map-gap, whole-map}
 
 abbrev pub cutPosition : Position → Position
@@ -33,8 +33,8 @@ abbrev pub cutStop : Stop → Stop
 cutStop s = stop (s .color) (cutPosition (s .position))
 
 -- ---- the code's stops are the paper's, cut off
-pub position-cut : (l : List ℕ) → positionOf cut l ≡ mapRead cutPosition (positionOf exact l)
-unfolding positionOf
+pub position-cut : (l : List ℕ) → stopPositionOf cut l ≡ mapRead cutPosition (stopPositionOf exact l)
+unfolding stopPositionOf
 position-cut l = rw (number-cut l) (sym (map-bind cutPosition cutNumber _ _ (λ n k. by-unit (n .unit) (n .value) k) (numberOf exact l)))
   where
     by-unit : (u : Unit) (z : ℤ) (k : List ℕ) → mapRead cutPosition (asPosition u z k) ≡ asPosition u (cut z) k
@@ -46,9 +46,9 @@ pub stop-cut : (l : List ℕ) → stopOf cut l ≡ mapRead cutStop (stopOf exact
 unfolding stopOf
 stop-cut l = sym (map-inside cutStop _ _ second (colorOf l))
   where
-    second : (v : Color) (k : List ℕ) → mapRead cutStop ((afterGap (positionOf exact) k >>= λ p e. got (stop v p) e) orRead got (stop v P.Auto) k)
-        ≡ ((afterGap (positionOf cut) k >>= λ p e. got (stop v p) e) orRead got (stop v P.Auto) k)
-    second v k = rw (map-or, ← map-gap cutPosition (positionOf exact) (positionOf cut) (λ m. sym (position-cut m)) k) (ap (λ (r : Read Stop). r orRead got (stop v P.Auto) k) (map-bind cutStop cutPosition _ _ (λ p e. refl) (afterGap (positionOf exact) k)))
+    second : (v : Color) (k : List ℕ) → mapRead cutStop ((afterGap (stopPositionOf exact) k >>= λ p e. got (stop v p) e) orRead got (stop v P.Auto) k)
+        ≡ ((afterGap (stopPositionOf cut) k >>= λ p e. got (stop v p) e) orRead got (stop v P.Auto) k)
+    second v k = rw (map-or, ← map-gap cutPosition (stopPositionOf exact) (stopPositionOf cut) (λ m. sym (position-cut m)) k) (ap (λ (r : Read Stop). r orRead got (stop v P.Auto) k) (map-bind cutStop cutPosition _ _ (λ p e. refl) (afterGap (stopPositionOf exact) k)))
 
 stops-cut : (items : List (List ℕ)) → stopsOf cut items ≡ mapRead (map cutStop) (stopsOf exact items)
 unfolding stopsOf

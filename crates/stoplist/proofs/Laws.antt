@@ -141,13 +141,13 @@ module _ (ss : List Stop) (s : Stop) where
 -- they are what all the items give
 pub record Done (keep : ℤ → ℤ) (s : List ℕ) (from at : ℕ) (t : StopList) : Type 0 where
   pub done : List Stop
-  pub held : t ≡ listOf done
+  pub biased : t ≡ listOf done
   pub gives : stopsOf keep (itemsFrom s from) ≡ mapRead (λ ss. done ++ ss) (stopsOf keep (itemsFrom s at))
 
 module _ (keep : ℤ → ℤ) (s : List ℕ) (from : ℕ) where
   pub done-none : {t : StopList} → t ≡ blankList → Done keep s from from t
   unfolding listOf
-  done-none e = record { done = []; held = e; gives = sym (map-same (λ ss. [] ++ ss) (λ ss. refl) (stopsOf keep (itemsFrom s from))) }
+  done-none e = record { done = []; biased = e; gives = sym (map-same (λ ss. [] ++ ss) (λ ss. refl) (stopsOf keep (itemsFrom s from))) }
 
   module _ {at : ℕ} {t : StopList} (w : Done keep s from at t) where
     module _ (h : at ≤ length s) {r : ℕ} (m : CommaAt s at r) where
@@ -155,7 +155,7 @@ module _ (keep : ℤ → ℤ) (s : List ℕ) (from : ℕ) where
       unfolding stopsOf
       done-more {a} {k} e q = record {
         done = w .done ++ a ∷ [];
-        held = q ∙ rw (w .held) (list-more (w .done) a);
+        biased = q ∙ rw (w .biased) (list-more (w .done) a);
         gives = rw (w .gives, items-more s at r h m, ← e) (go (stopsOf keep (itemsFrom s (r + 1))));
       }
         where
@@ -174,7 +174,7 @@ module _ (keep : ℤ → ℤ) (s : List ℕ) (from : ℕ) where
 
       count-done : t .count ≡ min (length (w .done)) 17
       unfolding listOf
-      count-done = rw (w .held)
+      count-done = rw (w .biased)
 
       pub done-few : t .count < 2 → noListing ≡ listingOf (twoStopsOf keep (itemsFrom s from))
       unfolding twoStopsOf
@@ -182,4 +182,4 @@ module _ (keep : ℤ → ℤ) (s : List ℕ) (from : ℕ) where
 
       pub done-enough : 2 ≤ t .count → _≡_ {A = Listing} (record { found = true; list = t }) (listingOf (twoStopsOf keep (itemsFrom s from)))
       unfolding twoStopsOf
-      done-enough k = rw (all-done, le-ltb (length (w .done)) 2 (omega (arith, count-done)), w .held)
+      done-enough k = rw (all-done, le-ltb (length (w .done)) 2 (omega (arith, count-done)), w .biased)

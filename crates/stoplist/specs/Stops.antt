@@ -26,11 +26,11 @@ asPosition U.Length z l = got (P.Length z) l
 asPosition U.Percentage z l = got (P.Percentage z) l
 asPosition U.Angle z l = refused
 
-unfoldable pub positionOf : (ℤ → ℤ) → List ℕ → Read Position
-positionOf keep l = numberOf keep l >>= λ n k. asPosition (n .unit) (n .value) k
+unfoldable pub stopPositionOf : (ℤ → ℤ) → List ℕ → Read Position
+stopPositionOf keep l = numberOf keep l >>= λ n k. asPosition (n .unit) (n .value) k
 
 unfoldable pub stopOf : (ℤ → ℤ) → List ℕ → Read Stop
-stopOf keep l = colorOf l >>= λ v k. (afterGap (positionOf keep) k >>= λ p e. got (stop v p) e) orRead got (stop v P.Auto) k
+stopOf keep l = colorOf l >>= λ v k. (afterGap (stopPositionOf keep) k >>= λ p e. got (stop v p) e) orRead got (stop v P.Auto) k
 
 -- the items of a text between its commas, at least one
 abbrev pub onto : ℕ → List (List ℕ) → List (List ℕ)

@@ -10,7 +10,7 @@ use Rattle.tokens.specs.Color.{color, isHex, hexValue, hexColor, hexOf, colorNa
 use Rattle.gradient.specs.declared.Color.{Color}
 use Rattle.gradient.specs.declared.Position.the-variants as P
 use Rattle.gradient.specs.declared.Stop.{Stop}
-use Rattle.stoplist.specs.Stops.{stop, positionOf, stopOf, itemsOf, stopsOf, twoStopsOf}
+use Rattle.stoplist.specs.Stops.{stop, stopPositionOf, stopOf, itemsOf, stopsOf, twoStopsOf}
 
 abbrev red : Color
 red = color 255 0 0 255
@@ -33,7 +33,7 @@ items :
     × (item "#0f0 -0.5px" ≡ got (stop (color 0 255 0 255) (P.Length (negsuc 499))) [])
     × (item "red40%" ≡ refused)
     × (item "red 5deg" ≡ refused)
-unfolding wholeOf stopOf positionOf colorOf hexOf hexColor isHex hexValue namedOf colorNames rowOf keywordOf lower peekOf restOf run past isSpace gapOf numberOf magnitudeOf fractionOf thousandths decimal isDigit isNegative afterSign unitOf
+unfolding wholeOf stopOf stopPositionOf colorOf hexOf hexColor isHex hexValue namedOf colorNames rowOf keywordOf lower peekOf restOf run past isSpace gapOf numberOf magnitudeOf fractionOf thousandths decimal isDigit isNegative afterSign unitOf
 items = (refl, refl, refl, refl, refl, refl)
 
 -- two stops; a comma at the end, with an empty item after it; one stop alone
@@ -43,5 +43,5 @@ lists :
     × (itemsOf (bytes "red,") ≡ bytes "red" ∷ [] ∷ [])
     × (list "red,blue," ≡ refused)
     × (list "red" ≡ refused)
-unfolding itemsOf twoStopsOf stopsOf wholeOf stopOf positionOf colorOf namedOf colorNames rowOf keywordOf lower peekOf restOf past isSpace gapOf numberOf magnitudeOf isDigit afterSign
+unfolding itemsOf twoStopsOf stopsOf wholeOf stopOf stopPositionOf colorOf namedOf colorNames rowOf keywordOf lower peekOf restOf past isSpace gapOf numberOf magnitudeOf isDigit afterSign
 lists = (refl, refl, refl, refl, refl)

@@ -14,7 +14,7 @@ ghost use lib.ListN.{length, drop};
 ghost use Rattle.text.specs.Text.{afterGap, wholeOf};
 ghost use Rattle.gradient.specs.Range.{stopIn};
 ghost use Rattle.tokens.specs.Number.{cut};
-ghost use Rattle.stoplist.specs.Stops.{positionOf, stopOf, twoStopsOf};
+ghost use Rattle.stoplist.specs.Stops.{stopPositionOf, stopOf, twoStopsOf};
 ghost use Rattle.stoplist.specs.View.{viewPosition, viewStop, blankList, added, noListing, listingOf, itemsFrom, CommaAt};
 
 pub enum PositionRead {
@@ -43,7 +43,7 @@ pub struct Listing {
 // ---- one stop
 
 fn read_position(s: &[u8], c: Cursor) -> PositionRead
-    ensures { λ r. ⌜ viewPosition (now (s .entry)) r ≡ positionOf cut (drop (c .at) (now (s .entry))) ⌝ }
+    ensures { λ r. ⌜ viewPosition (now (s .entry)) r ≡ stopPositionOf cut (drop (c .at) (now (s .entry))) ⌝ }
 {
     let NumberRead::Got(n, e) = tokens::read_number(s, c) else {
         return PositionRead::Refused;
@@ -58,7 +58,7 @@ fn read_position(s: &[u8], c: Cursor) -> PositionRead
 
 // White space and a position, after a color.
 fn second_position(s: &[u8], c: Cursor) -> PositionRead
-    ensures { λ r. ⌜ viewPosition (now (s .entry)) r ≡ afterGap (positionOf cut) (drop (c .at) (now (s .entry))) ⌝ }
+    ensures { λ r. ⌜ viewPosition (now (s .entry)) r ≡ afterGap (stopPositionOf cut) (drop (c .at) (now (s .entry))) ⌝ }
 {
     let Match::Past(k) = text::gap(s, c) else {
         return PositionRead::Refused;

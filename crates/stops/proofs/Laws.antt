@@ -7,9 +7,9 @@ use native.Mathlib.Omega.{arith}
 use lib.ListN.{length, getD, length-take}
 use lib.Seq.{getD-take}
 use borrow.Author.Tests.{ltb-false, le-ltb, leb-true, le-leb, not-false}
+use Rattle.replies.proofs.Laws.{orElse-zero, given-zero}
 use Rattle.gradient.specs.Lists.{all}
 use Rattle.gradient.proofs.Lists.{all-first, all-from}
-use Rattle.gradient.proofs.Laws.{orElse-zero, given-zero}
 use Rattle.stops.specs.declared.PlacedStops.{PlacedStops}
 use Rattle.stops.specs.Blank.{blankPlaced}
 use Rattle.stops.specs.Check.{placedOf, placeIn, placesIn, checkPlacedOf, AcceptedPlaced}

@@ -9,7 +9,7 @@ use lib.Dec.{leb, ltb}
 use lib.IntN.{ℤ, natAbs}
 use lib.ListN.{getD, take, drop}
 use lib.Signed.{leZ}
-use Rattle.gradient.specs.Replies.{given, _orElse_}
+use Rattle.replies.specs.Replies.{malformed, outOfRange, tooManyStops, given, _orElse_}
 use Rattle.gradient.specs.Lists.{all}
 use Rattle.stops.specs.declared.PlacedStop.{PlacedStop}
 use Rattle.stops.specs.declared.PlacedStops.{PlacedStops}
@@ -43,11 +43,11 @@ placesIn p = all placeIn (placedOf p)
 -- more than 16 stops: 6
 unfoldable pub checkPlacedOf : PlacedStops → ℕ
 checkPlacedOf p =
-    given (ltb (p .count) 2) 4
-    orElse given (not (rising (placedOf p))) 4
-    orElse given (not (blankPastPlaced p)) 4
-    orElse given (not (placesIn p)) 5
-    orElse given (ltb 16 (p .count)) 6
+    given (ltb (p .count) 2) malformed
+    orElse given (not (rising (placedOf p))) malformed
+    orElse given (not (blankPastPlaced p)) malformed
+    orElse given (not (placesIn p)) outOfRange
+    orElse given (ltb 16 (p .count)) tooManyStops
 
 -- what the reply 0 says of placed stops
 pub record AcceptedPlaced (p : PlacedStops) : Type 0 where

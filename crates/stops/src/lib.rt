@@ -1,6 +1,10 @@
 // Placed stops as a value, and which values are placed stops.
 use gradient::Color;
 use numbers::magnitude;
+use replies::DONE;
+use replies::MALFORMED;
+use replies::OUT_OF_RANGE;
+use replies::TOO_MANY_STOPS;
 ghost use mathlib.Core.Path.{_≡_};
 ghost use Rattle.stops.specs.Blank.{blankPlaced, noStops, isBlankPlaced};
 ghost use Rattle.stops.specs.Check.{placedOf, rising, blankPastPlaced, placeIn, placesIn, checkPlacedOf};
@@ -52,7 +56,7 @@ fn is_blank_placed(s: PlacedStop) -> bool
 fn place_in(s: PlacedStop) -> bool
     ensures { λ r. ⌜ r ≡ placeIn s ⌝ }
 {
-    magnitude(s.position) <= 33554432
+    magnitude(s.position) <= numbers::BIAS
 }
 
 // Whether no stop is below an earlier one.
@@ -111,10 +115,10 @@ pub fn check_placed(p: PlacedStops) -> u32
     ensures { λ r. ⌜ r ≡ checkPlacedOf p ⌝ }
 {
     if p.count < 2 || !are_rising(p) || !blank_past_placed(p) {
-        return 4;
+        return MALFORMED;
     }
     if !places_in(p) {
-        return 5;
+        return OUT_OF_RANGE;
     }
-    if p.count <= 16 { 0 } else { 6 }
+    if p.count <= 16 { DONE } else { TOO_MANY_STOPS }
 }

@@ -13,9 +13,9 @@ use lib.Seq.{getD-append-add, getD-drop}
 use mir.Syntax.{w32}
 use mir.Val.{ofZ}
 use borrow.Author.Tests.{eqb-true, not-false}
+use Rattle.replies.proofs.Laws.{orElse-zero, given-zero}
 use Rattle.gradient.specs.Blank.{isClear}
 use Rattle.gradient.proofs.Lists.{all-at}
-use Rattle.gradient.proofs.Laws.{orElse-zero, given-zero}
 use Rattle.stops.specs.Blank.{blankPlaced, isBlankPlaced}
 use Rattle.stops.specs.Check.{blankPastPlaced, checkPlacedOf, AcceptedPlaced}
 use Rattle.stops.specs.declared.PlacedStop.{PlacedStop}

@@ -9,8 +9,8 @@ use lib.Dec.{eqb}
 use lib.ListN.{getD}
 use mir.Syntax.{w32}
 use mir.Val.{toZ}
+use Rattle.replies.specs.Replies.{malformed, given, _orElse_}
 use Rattle.words.specs.Word.{wordAt, upTo, equal}
-use Rattle.gradient.specs.Replies.{given, _orElse_}
 use Rattle.gradient.specs.declared.Color.{Color}
 use Rattle.stops.specs.Blank.{noStops}
 use Rattle.stops.specs.Check.{checkPlacedOf}
@@ -32,7 +32,7 @@ placedAt s = record { count = getD s 0 0; stops = upTo 16 (placedStopAt s) }
 
 -- no layout: 4; else the reply to the placed stops
 unfoldable pub takenStopsReply : List ℕ → ℕ
-takenStopsReply s = given (not (equal s (placedLayoutOf (placedAt s)))) 4 orElse checkPlacedOf (placedAt s)
+takenStopsReply s = given (not (equal s (placedLayoutOf (placedAt s)))) malformed orElse checkPlacedOf (placedAt s)
 
 -- the placed stops where the reply is 0, else none
 unfoldable pub takenStopsOf : List ℕ → TakenStops

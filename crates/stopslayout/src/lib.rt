@@ -1,5 +1,7 @@
 // Placed stops as bytes: their one layout, and what a slice of bytes is taken for.
 use gradient::Color;
+use replies::DONE;
+use replies::MALFORMED;
 use stops::PlacedStop;
 use stops::PlacedStops;
 ghost use mathlib.Core.Path.{_≡_};
@@ -9,6 +11,9 @@ ghost use Rattle.picture.specs.Picture.{padded, patched};
 ghost use Rattle.words.specs.Word.{equal};
 ghost use Rattle.stopslayout.specs.Words.{stopBytes, placedLayoutOf};
 ghost use Rattle.stopslayout.specs.Taken.{colorFrom, placedStopAt, placedAt, takenStopsOf};
+
+// The bytes of placed stops.
+pub const SIZE: usize = 132;
 
 // Placed stops beside the reply to their layout; none after a refusal.
 pub struct TakenStops {
@@ -38,7 +43,7 @@ pub fn write(p: PlacedStops, out: &mut [u8])
         put_stop(out, 4 + 8 * place, s);
         place += 1;
     }
-    picture::clear_from(out, 132);
+    picture::clear_from(out, SIZE);
 }
 
 fn color_from(s: &[u8], at: usize) -> Color
@@ -83,7 +88,7 @@ fn placed_at(s: &[u8]) -> PlacedStops
 fn is_layout(s: &[u8], p: PlacedStops) -> bool
     ensures { λ r. ⌜ r ≡ equal (now (s .entry)) (placedLayoutOf p) ⌝ }
 {
-    let mut own = [0u8; 132];
+    let mut own = [0u8; SIZE];
     write(p, &mut own);
     words::same(s, &own)
 }
@@ -95,13 +100,16 @@ pub fn take(s: &[u8]) -> TakenStops
     let p = placed_at(s);
     if !is_layout(s, p) {
         return TakenStops {
-            reply: 4,
+            reply: MALFORMED,
             stops: stops::no_stops(),
         };
     }
     let reply = stops::check_placed(p);
-    if reply == 0 {
-        return TakenStops { reply: 0, stops: p };
+    if reply == DONE {
+        return TakenStops {
+            reply: DONE,
+            stops: p,
+        };
     }
     TakenStops {
         reply: reply,

@@ -1,72 +1,278 @@
-// Strips of a picture: rows a up to b, each kind of line by the code that is fastest for it.
+// Strips of a picture, each kind of line by the code that is fastest for it. All tables are made here, on the stack, as large as a strip needs.
+use line::BiasedCenter;
 use line::Line;
+use line::SignedVector;
+use rows::Strip;
+use straight::Shift;
 ghost use mathlib.Core.Path.{_≡_};
-ghost use mathlib.Core.Bool.{true};
-ghost use Prim.Native.Nat.{_≤_};
+ghost use Prim.Native.Nat.{_+_, _≤_, _<_};
 ghost use lib.ListN.{length};
-ghost use Rattle.picture.specs.Picture.{strip, patched};
-ghost use Rattle.rows.specs.Pixel.{Drawable, Strip, lentPixel};
+ghost use Rattle.line.specs.declared.Line.{Line};
+ghost use Rattle.line.specs.Box.{Box};
+ghost use Rattle.line.specs.Represented.{Bounded, Near};
+ghost use Rattle.picture.specs.Picture.{patched};
+ghost use Rattle.ramp.specs.Ramp.{headSize, Ramp};
+ghost use Rattle.rows.specs.Pixel.{Placed, Rows, Drawable, stripOf};
+ghost use Rattle.circle.specs.Circular.{Circular};
+ghost use Rattle.strips.specs.Plan.{narrow, tinyTable, smallTable, mostEntries, lastBase, Planned, Room};
 
-// Whether the box's diagonal is at most 96 px, the units of which a small table has entries for.
-fn is_small(w: usize, h: usize) -> bool
-    requires { ⌜ (w ≤ 2048) × (h ≤ 2048) ⌝ }
-    ensures { λ r. ⌜ (r ≡ true → w ≤ 96) ⌝ }
-{
-    w <= 96 && w * w + h * h <= 9216
+// The most columns of a narrow strip.
+const NARROW: usize = 256;
+
+// The most columns of any strip.
+const WIDE: usize = 2048;
+
+// The last location that a table may start at.
+const LAST_BASE: u32 = 33000000;
+
+// The most entries of a tiny table.
+const TINY: usize = 6144;
+
+// The most entries of a small table.
+const SMALL: usize = 16384;
+
+// The most entries of any table: more than the diagonal of the largest box has units.
+const LARGE: usize = 185408;
+
+// The words of a ramp with a tiny table.
+const TINY_RAMP: usize = ramp::HEAD + TINY;
+
+// The words of a ramp with a small table.
+const SMALL_RAMP: usize = ramp::HEAD + SMALL;
+
+// The words of a ramp with the largest table.
+const LARGE_RAMP: usize = ramp::HEAD + LARGE;
+
+// ---- with a ramp that has a table
+
+fn narrow_columns() -> [u32; NARROW] {
+    [0u32; NARROW]
 }
 
-// Draws rows a up to b of the picture from the buffer's start, with tables of any size. The stack that they take is taken here alone.
-fn draw_large_box(
-    positions: &[u32],
-    values: &[u32],
-    l: Line,
-    w: usize,
-    h: usize,
-    a: usize,
-    b: usize,
-    buf: &mut [u8],
-)
-    requires { ⌜ Drawable (now positions) (now values) l w h × Strip w h a b (length (now buf)) ⌝ }
-    ensures { λ _. ⌜ now (buf .exit) ≡ patched (now (buf .entry)) 0 (strip (lentPixel (now (positions .entry)) (now (values .entry)) l w h) w a b) ⌝ }
+fn wide_columns() -> [u32; WIDE] {
+    [0u32; WIDE]
+}
+
+// Draws a narrow strip around a circle's center.
+fn circle_narrow(ramp: &[u32], c: BiasedCenter, z: Strip, buf: &mut [u8])
+    requires { ⌜ Ramp (now ramp) × Circular c z (length (now buf)) × (z .w ≤ narrow) ⌝ }
+    ensures { λ _. ⌜ now (buf .exit) ≡ patched (now (buf .entry)) 0 (stripOf (now (ramp .entry)) (Line.Circle c) z) ⌝ }
 {
-    match l {
-        Line::Straight(v) => linerows::draw_straight(positions, values, v, w, h, a, b, buf),
-        Line::Circle(c) => circlestrips::draw_circle(positions, values, c, w, h, a, b, buf),
+    let mut low = narrow_columns();
+    let mut p = narrow_columns();
+    let mut q = narrow_columns();
+    circle::draw(ramp, &mut low, &mut p, &mut q, c, z, buf);
+}
+
+// Draws a strip of any width around a circle's center.
+fn circle_wide(ramp: &[u32], c: BiasedCenter, z: Strip, buf: &mut [u8])
+    requires { ⌜ Ramp (now ramp) × Circular c z (length (now buf)) ⌝ }
+    ensures { λ _. ⌜ now (buf .exit) ≡ patched (now (buf .entry)) 0 (stripOf (now (ramp .entry)) (Line.Circle c) z) ⌝ }
+{
+    let mut low = wide_columns();
+    let mut p = wide_columns();
+    let mut q = wide_columns();
+    circle::draw(ramp, &mut low, &mut p, &mut q, c, z, buf);
+}
+
+fn draw_circle(ramp: &[u32], c: BiasedCenter, z: Strip, buf: &mut [u8])
+    requires { ⌜ Ramp (now ramp) × Circular c z (length (now buf)) ⌝ }
+    ensures { λ _. ⌜ now (buf .exit) ≡ patched (now (buf .entry)) 0 (stripOf (now (ramp .entry)) (Line.Circle c) z) ⌝ }
+{
+    if z.w <= NARROW {
+        circle_narrow(ramp, c, z, buf);
+    } else {
+        circle_wide(ramp, c, z, buf);
     }
 }
 
-// Draws rows a up to b of the picture from the buffer's start.
-pub fn draw_strip(
-    positions: &[u32],
-    values: &[u32],
-    l: Line,
-    w: usize,
-    h: usize,
-    a: usize,
-    b: usize,
-    buf: &mut [u8],
-)
-    requires { ⌜ Drawable (now positions) (now values) l w h × Strip w h a b (length (now buf)) ⌝ }
-    ensures { λ _. ⌜ now (buf .exit) ≡ patched (now (buf .entry)) 0 (strip (lentPixel (now (positions .entry)) (now (values .entry)) l w h) w a b) ⌝ }
+fn draw_ready(ramp: &[u32], shift: Shift, l: Line, z: Strip, buf: &mut [u8])
+    requires { ⌜ Ramp (now ramp) × Placed l (z .w) (z .h) × Rows z (length (now buf)) ⌝ }
+    ensures { λ _. ⌜ now (buf .exit) ≡ patched (now (buf .entry)) 0 (stripOf (now (ramp .entry)) l z) ⌝ }
 {
-    let small = is_small(w, h);
+    match l {
+        Line::Straight(v) => straight::draw(ramp, v, shift, z, buf),
+        Line::Circle(c) => draw_circle(ramp, c, z, buf),
+    }
+}
+
+// ---- with stops, and room for a table
+
+// The table that a strip is drawn with, and the shift that may copy its rows.
+struct Plan {
+    base: u32,
+    entries: usize,
+    shift: Shift,
+}
+
+// Makes a ramp with the planned table, in the room that is lent for it, and draws with it.
+fn draw_with(ramp: &mut [u32], p: Plan, stops: &[u32], l: Line, z: Strip, buf: &mut [u8])
+    requires { ⌜ Drawable (now stops) l z (length (now buf)) × Room (p .base) (length (now ramp)) ⌝ }
+    ensures { λ _. ⌜ now (buf .exit) ≡ patched (now (buf .entry)) 0 (stripOf (now (stops .entry)) l z) ⌝ }
+{
+    ramp::set_table(ramp, stops, p.base);
+    draw_ready(ramp, p.shift, l, z, buf);
+}
+
+// `draw_with` once more, for the largest table alone. Having one caller, this copy is inlined all the way into `draw_large_box`. That makes
+// `draw_large_box` too long to be inlined itself: its 741 KB of stack would otherwise be taken for every small picture, too.
+fn draw_with_most(ramp: &mut [u32], p: Plan, stops: &[u32], l: Line, z: Strip, buf: &mut [u8])
+    requires { ⌜ Drawable (now stops) l z (length (now buf)) × Room (p .base) (length (now ramp)) ⌝ }
+    ensures { λ _. ⌜ now (buf .exit) ≡ patched (now (buf .entry)) 0 (stripOf (now (stops .entry)) l z) ⌝ }
+{
+    ramp::set_table(ramp, stops, p.base);
+    draw_ready(ramp, p.shift, l, z, buf);
+}
+
+// ---- planning
+
+// Where a table should start whose first location is `first`: there, unless that is too far away.
+fn base_of(first: u32) -> u32
+    ensures { λ r. ⌜ r ≤ lastBase ⌝ }
+{
+    if first <= LAST_BASE { first } else { 0 }
+}
+
+// How many locations there are from `first` to `last`, or as many as the largest table has if that is less.
+fn span(first: u32, last: u32) -> usize
+    ensures { λ r. ⌜ r ≤ mostEntries ⌝ }
+{
+    if last < first {
+        return 0;
+    }
+    let n = (last - first) as usize;
+    if n < LARGE { n + 1 } else { LARGE }
+}
+
+fn straight_plan(v: SignedVector, z: Strip) -> Plan
+    requires { ⌜ Box (z .w) (z .h) × Bounded v × (z .a < z .b) × (z .b ≤ z .h) ⌝ }
+    ensures { λ r. ⌜ Planned r mostEntries ⌝ }
+{
+    let first = straight::first(v, z);
+    let n = span(first, straight::last(v, z));
+    let shift = straight::shift_of(v);
+    Plan {
+        base: base_of(first),
+        entries: straight::entries(v, shift, z, n),
+        shift,
+    }
+}
+
+fn circle_plan(c: BiasedCenter, z: Strip) -> Plan
+    requires { ⌜ Box (z .w) (z .h) × Near c × (z .a < z .b) × (z .b ≤ z .h) ⌝ }
+    ensures { λ r. ⌜ Planned r mostEntries ⌝ }
+{
+    let first = circle::first(c, z);
+    Plan {
+        base: base_of(first),
+        entries: span(first, circle::last(c, z)),
+        shift: straight::no_shift(),
+    }
+}
+
+// ---- with tables of four sizes
+
+fn no_room() -> [u32; ramp::HEAD] {
+    [0u32; ramp::HEAD]
+}
+
+fn tiny_room() -> [u32; TINY_RAMP] {
+    [0u32; TINY_RAMP]
+}
+
+fn small_room() -> [u32; SMALL_RAMP] {
+    [0u32; SMALL_RAMP]
+}
+
+fn large_room() -> [u32; LARGE_RAMP] {
+    [0u32; LARGE_RAMP]
+}
+
+fn with_none(p: Plan, stops: &[u32], l: Line, z: Strip, buf: &mut [u8])
+    requires { ⌜ Drawable (now stops) l z (length (now buf)) × (p .base ≤ lastBase) ⌝ }
+    ensures { λ _. ⌜ now (buf .exit) ≡ patched (now (buf .entry)) 0 (stripOf (now (stops .entry)) l z) ⌝ }
+{
+    let mut room = no_room();
+    draw_with(&mut room, p, stops, l, z, buf);
+}
+
+fn with_tiny(p: Plan, stops: &[u32], l: Line, z: Strip, buf: &mut [u8])
+    requires { ⌜ Drawable (now stops) l z (length (now buf)) × Planned p tinyTable ⌝ }
+    ensures { λ _. ⌜ now (buf .exit) ≡ patched (now (buf .entry)) 0 (stripOf (now (stops .entry)) l z) ⌝ }
+{
+    let mut room = tiny_room();
+    let n = ramp::HEAD + p.entries;
+    draw_with(&mut room[..n], p, stops, l, z, buf);
+}
+
+fn with_small(p: Plan, stops: &[u32], l: Line, z: Strip, buf: &mut [u8])
+    requires { ⌜ Drawable (now stops) l z (length (now buf)) × Planned p smallTable ⌝ }
+    ensures { λ _. ⌜ now (buf .exit) ≡ patched (now (buf .entry)) 0 (stripOf (now (stops .entry)) l z) ⌝ }
+{
+    let mut room = small_room();
+    let n = ramp::HEAD + p.entries;
+    draw_with(&mut room[..n], p, stops, l, z, buf);
+}
+
+fn with_large(p: Plan, stops: &[u32], l: Line, z: Strip, buf: &mut [u8])
+    requires { ⌜ Drawable (now stops) l z (length (now buf)) × Planned p mostEntries ⌝ }
+    ensures { λ _. ⌜ now (buf .exit) ≡ patched (now (buf .entry)) 0 (stripOf (now (stops .entry)) l z) ⌝ }
+{
+    let mut room = large_room();
+    let n = ramp::HEAD + p.entries;
+    draw_with_most(&mut room[..n], p, stops, l, z, buf);
+}
+
+// With a tiny table, or none.
+fn draw_small_box(p: Plan, stops: &[u32], l: Line, z: Strip, buf: &mut [u8])
+    requires { ⌜ Drawable (now stops) l z (length (now buf)) × Planned p tinyTable ⌝ }
+    ensures { λ _. ⌜ now (buf .exit) ≡ patched (now (buf .entry)) 0 (stripOf (now (stops .entry)) l z) ⌝ }
+{
+    if p.entries == 0 {
+        with_none(p, stops, l, z, buf);
+    } else {
+        with_tiny(p, stops, l, z, buf);
+    }
+}
+
+// With a small or the largest table. Only this function takes the stack for them: it has two callers, so the compiler does not inline it.
+fn draw_large_box(p: Plan, stops: &[u32], l: Line, z: Strip, buf: &mut [u8])
+    requires { ⌜ Drawable (now stops) l z (length (now buf)) × Planned p mostEntries ⌝ }
+    ensures { λ _. ⌜ now (buf .exit) ≡ patched (now (buf .entry)) 0 (stripOf (now (stops .entry)) l z) ⌝ }
+{
+    if p.entries <= SMALL {
+        with_small(p, stops, l, z, buf);
+    } else {
+        with_large(p, stops, l, z, buf);
+    }
+}
+
+// Draws a strip from the buffer's start.
+pub fn draw(stops: &[u32], l: Line, z: Strip, buf: &mut [u8])
+    requires { ⌜ Drawable (now stops) l z (length (now buf)) ⌝ }
+    ensures { λ _. ⌜ now (buf .exit) ≡ patched (now (buf .entry)) 0 (stripOf (now (stops .entry)) l z) ⌝ }
+{
     match l {
         Line::Straight(v) => {
             if v.x == 0 {
-                axisrows::draw_upright(positions, values, v, w, h, a, b, buf);
+                axisrows::draw_vertical(stops, v, z, buf);
             } else if v.y == 0 {
-                axisrows::draw_level(positions, values, v, w, h, a, b, buf);
-            } else if small {
-                linerows::draw_small_box(positions, values, v, w, h, a, b, buf);
+                axisrows::draw_horizontal(stops, v, z, buf);
             } else {
-                draw_large_box(positions, values, l, w, h, a, b, buf);
+                let p = straight_plan(v, z);
+                if p.entries <= TINY {
+                    draw_small_box(p, stops, l, z, buf);
+                } else {
+                    draw_large_box(p, stops, l, z, buf);
+                }
             }
         }
         Line::Circle(c) => {
-            if small {
-                circlestrips::draw_small_box(positions, values, c, w, h, a, b, buf);
+            let p = circle_plan(c, z);
+            if p.entries <= TINY {
+                draw_small_box(p, stops, l, z, buf);
             } else {
-                draw_large_box(positions, values, l, w, h, a, b, buf);
+                draw_large_box(p, stops, l, z, buf);
             }
         }
     }

@@ -9,8 +9,8 @@ use lib.Dec.{leb}
 use lib.IntN.{ℤ, pos}
 use lib.ListN.{length, getD}
 use Rattle.numbers.specs.Fraction.{_⁄_, nearest}
-use Rattle.numbers.specs.Held.{offset, unheld}
-use Rattle.numbers.proofs.Integers.{held-count}
+use Rattle.numbers.specs.Biased.{bias, unbiased}
+use Rattle.numbers.proofs.Integers.{biased-count}
 use Rattle.color.specs.Stop.{Channel, red, green, blue, alpha}
 use Rattle.color.specs.Byte.{rgba, bytes, colorAt}
 use Rattle.color.specs.Lent.{Small, Lent, stopsOf, valuesAt, lastUpTo}
@@ -46,35 +46,35 @@ values-small vs h i blue = h (4 * i + 2)
 values-small vs h i alpha = h (4 * i + 3)
 
 module _ (ps vs : List ℕ) (h : Lent ps vs) where
-  -- a color that was found by its held location is the entry
-  pub entry-is : (p : Rgba) (s : ℕ) → p ≡ colorAt (stopsOf ps vs) (unheld (offset + s)) → packed p ≡ entryOf ps vs s
+  -- the color that is found at the biased location is the entry
+  pub entry-is : (p : Rgba) (s : ℕ) → p ≡ colorAt (stopsOf ps vs) (unbiased (bias + s)) → packed p ≡ entryOf ps vs s
   unfolding entryOf
-  entry-is p s e = ap packed (e ∙ ap (colorAt (stopsOf ps vs)) (held-count offset s))
+  entry-is p s e = ap packed (e ∙ ap (colorAt (stopsOf ps vs)) (biased-count bias s))
 
   stop-small : (i : ℕ) (c : Channel) → nearest (valuesAt vs i c ⁄ 255) ≤ 255
   stop-small i c = omega (arith, values-small vs (h .small) i c)
 
-  color-found : (at : ℕ) → Found (colorAt (stopsOf ps vs) (unheld at))
+  color-found : (at : ℕ) → Found (colorAt (stopsOf ps vs) (unbiased at))
   color-found at = go (lastUpTo ps at) refl
     where
-      same : (f : Channel → ℕ) → ((c : Channel) → f c ≤ 255) → rgba f ≡ colorAt (stopsOf ps vs) (unheld at) → Found (colorAt (stopsOf ps vs) (unheld at))
+      same : (f : Channel → ℕ) → ((c : Channel) → f c ≤ 255) → rgba f ≡ colorAt (stopsOf ps vs) (unbiased at) → Found (colorAt (stopsOf ps vs) (unbiased at))
       same f l e = subst Found e (found (rgba f) (l red) (l green) (l blue) (l alpha))
 
-      pair : (i : ℕ) → suc i ≡ lastUpTo ps at → (suc i ≡ length ps → ⊥) → Found (colorAt (stopsOf ps vs) (unheld at))
+      pair : (i : ℕ) → suc i ≡ lastUpTo ps at → (suc i ≡ length ps → ⊥) → Found (colorAt (stopsOf ps vs) (unbiased at))
       pair i e n =
           let b = between ps vs h at i e n in
           let l = values-small vs (h .small) in
           same _ (λ c. mix-byte (valuesAt vs i c) (valuesAt vs (i + 1) c) (at - getD ps i 0) (getD ps (i + 1) 0 - at) (l i c) (l (i + 1) c) (omega (arith, b .above))) (color-between ps vs h at i e n)
 
-      either : (i : ℕ) → suc i ≡ lastUpTo ps at → Dec (length ps ≤ suc i) → Found (colorAt (stopsOf ps vs) (unheld at))
+      either : (i : ℕ) → suc i ≡ lastUpTo ps at → Dec (length ps ≤ suc i) → Found (colorAt (stopsOf ps vs) (unbiased at))
       either i e (yes l) = same _ (stop-small i) (color-last ps vs h at i e (omega (arith, last (λ (p : ℕ). leb p at) 0 ps .within)))
       either i e (no l) = pair i e (λ m. omega arith)
 
-      go : (k : ℕ) → k ≡ lastUpTo ps at → Found (colorAt (stopsOf ps vs) (unheld at))
+      go : (k : ℕ) → k ≡ lastUpTo ps at → Found (colorAt (stopsOf ps vs) (unbiased at))
       go zero e = same _ (stop-small 0) (color-first ps vs h at e)
       go (suc i) e = either i e (decLe (length ps) (suc i))
 
   -- the bytes of an entry are the color's
   pub entry-bytes : (s : ℕ) → wordBytes (entryOf ps vs s) ≡ bytes (colorAt (stopsOf ps vs) (pos s))
   unfolding entryOf
-  entry-bytes s = subst (λ (z : ℤ). Found (colorAt (stopsOf ps vs) z)) (held-count offset s) (color-found (offset + s))
+  entry-bytes s = subst (λ (z : ℤ). Found (colorAt (stopsOf ps vs) z)) (biased-count bias s) (color-found (bias + s))

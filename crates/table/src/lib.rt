@@ -1,20 +1,20 @@
-// A table of colors by location, each color packed into one number: filled from placed stops that are lent as two slices of numbers, and read.
-// Between two stops a table is filled by walks, with no division to an entry.
+// Tables of colors by location, each color packed into a word, from placed stops that are lent as two slices of numbers. Between two stops a table is
+// filled by walks, with no division per entry.
 use color::Rgba;
 use walk::Channels;
 ghost use mathlib.Core.Path.{_≡_};
-ghost use mathlib.Core.Bool.{true};
 ghost use mathlib.Core.List.{List};
 ghost use Prim.Native.Nat.{ℕ, _+_, _-_, _*_, _/_, _≤_, _<_};
-ghost use lib.IntN.{pos};
 ghost use lib.ListN.{length, getD};
 ghost use Rattle.color.specs.Stop.{Channel};
-ghost use Rattle.color.specs.Byte.{bytes, colorAt};
-ghost use Rattle.color.specs.Lent.{Lent, Small, stopsOf, lastUpTo};
-ghost use Rattle.picture.specs.Picture.{patched};
-ghost use Rattle.walk.specs.Walk.{Gap, Fits};
+ghost use Rattle.color.specs.Lent.{Lent, Small, lastUpTo};
+ghost use Rattle.numbers.specs.Biased.{bias};
+ghost use Rattle.walk.specs.Walk.{mostSteps, Gap, Fits};
 ghost use Rattle.walk.specs.Channels.{walkOf};
-ghost use Rattle.table.specs.Table.{packed, entryOf, entryAt, Spaced, Table, walkedAt, Reached, Spans, Stored, Rising, Splits, Ends, Run};
+ghost use Rattle.table.specs.Table.{packed, locationLimit, entryOf, entryAt, Spaced, walkedAt, Reached, Spans, Stored, Splits, Ends, Run};
+
+// From this many units on, a gap is too long for walks.
+const LONG_GAP: u32 = 16777216;
 
 // ---- packed colors
 
@@ -24,38 +24,17 @@ fn pack(p: Rgba) -> u32
     (p.red as u32) + 256 * (p.green as u32) + 65536 * (p.blue as u32) + 16777216 * (p.alpha as u32)
 }
 
-// Stores the bytes of a packed color from `at` on.
-pub fn put_entry(buf: &mut [u8], at: usize, c: u32)
-    requires { ⌜ at + 4 ≤ length (now buf) ⌝ }
-    ensures { λ _. ⌜ ((ps vs : List ℕ) (s : ℕ) → Lent ps vs → c ≡ entryOf ps vs s
-        → now (buf .exit) ≡ patched (now (buf .entry)) at (bytes (colorAt (stopsOf ps vs) (pos s)))) ⌝ }
-{
-    words::put_word(buf, at, c);
-}
-
 // The color at a location, packed.
-fn color_of(positions: &[u32], values: &[u32], s: u32) -> u32
-    requires { ⌜ Lent (now positions) (now values) × (s ≤ 94906265) ⌝ }
+pub fn color_of(positions: &[u32], values: &[u32], s: u64) -> u32
+    requires { ⌜ Lent (now positions) (now values) × (s < locationLimit) ⌝ }
     ensures { λ r. ⌜ r ≡ entryOf (now (positions .entry)) (now (values .entry)) s ⌝ }
 {
-    pack(color::color_at(positions, values, 33554432 + s))
+    pack(color::color_at(positions, values, numbers::WIDE_BIAS + s))
 }
 
-// The color at a location, packed: the table's, where it has it.
-pub fn entry(t: &[u32], base: u32, positions: &[u32], values: &[u32], s: u32) -> u32
-    requires { ⌜ Lent (now positions) (now values) × Table (now positions) (now values) base (now t) × (s ≤ 94906265) ⌝ }
-    ensures { λ r. ⌜ r ≡ entryOf (now (positions .entry)) (now (values .entry)) s ⌝ }
-{
-    let k = std::num::wrapping_sub_u64(s as u64, base as u64) as usize;
-    if k < t.len() {
-        return t[k];
-    }
-    color_of(positions, values, s)
-}
+// ---- the entries from `at` up to `end`
 
-// ---- entries from `at` up to `end`
-
-// Stores v.
+// Stores v in each.
 fn fill_flat(t: &mut [u32], at: usize, end: usize, v: u32)
     requires { ⌜ (at ≤ end) × (end ≤ length (now t)) ⌝ }
     ensures { λ _. ⌜ Stored (λ (k : ℕ). v) at end (now (t .entry)) (now (t .exit)) ⌝ }
@@ -82,7 +61,7 @@ fn fill_steps(t: &mut [u32], at: usize, end: usize, start: Channels)
     }
 }
 
-// Stores the colors of the walks, 16 of them, and takes the walks past these. If the first color is the last, so are those between.
+// Stores the next 16 colors of the walks, and takes the walks past them. If the first and the last are the same, so are those between.
 fn fill_block(t: &mut [u32], at: usize, w: Channels) -> Channels
     requires { ⌜ (at + 16 ≤ length (now t)) × ((c : Channel) → Fits 15 (walkOf w c)) ⌝ }
     ensures { λ r. ⌜ ((vs : List ℕ) (i g s x a : ℕ) → a ≤ at → Spans g s x a (at + 16) → Reached vs i g s x a at w
@@ -97,7 +76,7 @@ fn fill_block(t: &mut [u32], at: usize, w: Channels) -> Channels
     walk::next_all(v)
 }
 
-// Stores the colors of walks in steps of `stride` units that begin at x units from stop i, of g up to the next.
+// Stores the colors of walks in steps of `stride` units that start x units from stop i, in a gap of g units.
 fn fill_walked(
     t: &mut [u32],
     at: usize,
@@ -108,7 +87,7 @@ fn fill_walked(
     stride: u32,
     x: u32,
 )
-    requires { ⌜ (at ≤ end) × (end ≤ length (now t)) × (length (now t) < 262144) ⌝ }
+    requires { ⌜ (at ≤ end) × (end ≤ length (now t)) × (length (now t) < mostSteps) ⌝ }
     requires { ⌜ (4 * i + 7 < length (now values)) × Small (now values) × Gap g stride x × Spans g stride x at end ⌝ }
     ensures { λ _. ⌜ Stored (walkedAt (now (values .entry)) i g stride x at) at end (now (t .entry)) (now (t .exit)) ⌝ }
 {
@@ -121,7 +100,7 @@ fn fill_walked(
     fill_steps(t, k, end, w);
 }
 
-// Stores the colors of the locations, each found by itself.
+// Stores the color of each location, found on its own.
 fn fill_each(
     t: &mut [u32],
     at: usize,
@@ -131,31 +110,17 @@ fn fill_each(
     base: u32,
     stride: u32,
 )
-    requires { ⌜ Lent (now positions) (now values) × (at ≤ end) × (end ≤ length (now t)) × (base + length (now t) * stride ≤ 33554432) × (length (now t) < 262144) ⌝ }
+    requires { ⌜ Lent (now positions) (now values) × (at ≤ end) × (end ≤ length (now t)) × (base + length (now t) * stride ≤ bias) × (length (now t) < mostSteps) ⌝ }
     ensures { λ _. ⌜ Stored (entryAt (now (positions .entry)) (now (values .entry)) base stride) at end (now (t .entry)) (now (t .exit)) ⌝ }
 {
     let mut k = at;
     while k < end {
-        t[k] = color_of(positions, values, base + (k as u32) * stride);
+        t[k] = color_of(positions, values, (base + (k as u32) * stride) as u64);
         k += 1;
     }
 }
 
-// ---- runs: locations that no position lies between
-
-// Whether no position is below the one before it.
-fn is_rising(positions: &[u32]) -> bool
-    ensures { λ r. ⌜ (r ≡ true → Rising (now (positions .entry))) ⌝ }
-{
-    let mut i = 0;
-    while i + 1 < positions.len() {
-        if positions[i + 1] < positions[i] {
-            return false;
-        }
-        i += 1;
-    }
-    true
-}
+// ---- runs: locations with no position between them
 
 // The first place from `from` on whose position is above `at`.
 fn place_above(positions: &[u32], from: usize, at: u32) -> usize
@@ -184,7 +149,7 @@ fn run_end(positions: &[u32], place: usize, limit: u32) -> u32
     limit
 }
 
-// n / stride, the sooner for the stride of rows and columns.
+// n / stride, faster for the stride of rows and columns.
 fn entries_in(n: u32, stride: u32) -> u32
     requires { ⌜ 0 < stride ⌝ }
     ensures { λ r. ⌜ r ≡ n / stride ⌝ }
@@ -204,12 +169,12 @@ fn fill_between(
     i: usize,
 )
     requires { ⌜ Lent (now positions) (now values) × Run (now positions) base stride at end (length (now t)) ⌝ }
-    requires { ⌜ (i + 1 ≡ lastUpTo (now positions) (33554432 + (base + at * stride))) × (i + 1 < length (now positions)) ⌝ }
+    requires { ⌜ (i + 1 ≡ lastUpTo (now positions) (bias + (base + at * stride))) × (i + 1 < length (now positions)) ⌝ }
     ensures { λ _. ⌜ Stored (entryAt (now (positions .entry)) (now (values .entry)) base stride) at end (now (t .entry)) (now (t .exit)) ⌝ }
 {
     let a = positions[i];
     let g = positions[i + 1] - a;
-    if 16777216 <= g {
+    if LONG_GAP <= g {
         fill_each(t, at, end, positions, values, base, stride);
         return;
     }
@@ -217,11 +182,11 @@ fn fill_between(
         fill_each(t, at, end, positions, values, base, stride);
         return;
     }
-    let x = 33554432 + (base + (at as u32) * stride) - a;
+    let x = numbers::BIAS + (base + (at as u32) * stride) - a;
     fill_walked(t, at, end, values, i, g, stride, x);
 }
 
-// Stores the colors of a run, where `place` is the place of the last position at or below its first location.
+// Stores the colors of a run; `place` positions are at or below its first location.
 fn fill_run(
     t: &mut [u32],
     at: usize,
@@ -232,10 +197,10 @@ fn fill_run(
     stride: u32,
     place: usize,
 )
-    requires { ⌜ Lent (now positions) (now values) × Run (now positions) base stride at end (length (now t)) × (place ≡ lastUpTo (now positions) (33554432 + (base + at * stride))) ⌝ }
+    requires { ⌜ Lent (now positions) (now values) × Run (now positions) base stride at end (length (now t)) × (place ≡ lastUpTo (now positions) (bias + (base + at * stride))) ⌝ }
     ensures { λ _. ⌜ Stored (entryAt (now (positions .entry)) (now (values .entry)) base stride) at end (now (t .entry)) (now (t .exit)) ⌝ }
 {
-    let s = base + (at as u32) * stride;
+    let s = (base + (at as u32) * stride) as u64;
     if place == 0 {
         fill_flat(t, at, end, color_of(positions, values, s));
         return;
@@ -249,13 +214,13 @@ fn fill_run(
 
 // ---- the table
 
-// Fills the table run by run, with the colors of the locations from `base` on, `stride` units apart.
-fn fill_runs(t: &mut [u32], positions: &[u32], values: &[u32], base: u32, stride: u32)
-    requires { ⌜ Lent (now positions) (now values) × Rising (now positions) × (0 < stride) × (base + length (now t) * stride ≤ 33554432) × (length (now t) < 262144) ⌝ }
+// Fills the table, run by run, with the colors of the locations from `base` on, `stride` units apart.
+pub fn fill_spaced(t: &mut [u32], positions: &[u32], values: &[u32], base: u32, stride: u32)
+    requires { ⌜ Lent (now positions) (now values) × (0 < stride) × (base + length (now t) * stride ≤ bias) × (length (now t) < mostSteps) ⌝ }
     ensures { λ _. ⌜ Spaced (now (positions .entry)) (now (values .entry)) base stride (now (t .exit)) × (length (now (t .exit)) ≡ length (now (t .entry))) ⌝ }
 {
     let n = t.len();
-    let first = 33554432 + base;
+    let first = numbers::BIAS + base;
     let limit = first + (n as u32) * stride;
     let mut k = 0;
     let mut place = 0;
@@ -266,58 +231,4 @@ fn fill_runs(t: &mut [u32], positions: &[u32], values: &[u32], base: u32, stride
         fill_run(t, k, end, positions, values, base, stride, place);
         k = end;
     }
-}
-
-// Fills the table with the colors of the locations from `base` on, `stride` units apart: one by one where the positions do not rise, as placed ones do.
-pub fn fill_spaced(t: &mut [u32], positions: &[u32], values: &[u32], base: u32, stride: u32)
-    requires { ⌜ Lent (now positions) (now values) × (0 < stride) × (base + length (now t) * stride ≤ 33554432) × (length (now t) < 262144) ⌝ }
-    ensures { λ _. ⌜ Spaced (now (positions .entry)) (now (values .entry)) base stride (now (t .exit)) × (length (now (t .exit)) ≡ length (now (t .entry))) ⌝ }
-{
-    if is_rising(positions) {
-        fill_runs(t, positions, values, base, stride);
-    } else {
-        let n = t.len();
-        fill_each(t, 0, n, positions, values, base, stride);
-    }
-}
-
-// Fills the table with the colors of the locations from `base` on.
-pub fn fill(t: &mut [u32], positions: &[u32], values: &[u32], base: u32)
-    requires { ⌜ Lent (now positions) (now values) × (base + length (now t) ≤ 33554432) × (length (now t) < 262144) ⌝ }
-    ensures { λ _. ⌜ Table (now (positions .entry)) (now (values .entry)) base (now (t .exit)) × (length (now (t .exit)) ≡ length (now (t .entry))) ⌝ }
-{
-    fill_spaced(t, positions, values, base, 1);
-}
-
-// ---- sizes
-
-// Where a table begins whose first location is to be this one: there, unless it is too far away.
-pub fn base_of(first: u32) -> u32
-    ensures { λ r. ⌜ r ≤ 33000000 ⌝ }
-{
-    if first <= 33000000 { first } else { 0 }
-}
-
-// How many locations there are from `first` to `last`, or `most` where that is less.
-pub fn span(first: u32, last: u32, most: usize) -> usize
-    ensures { λ r. ⌜ r ≤ most ⌝ }
-{
-    if last < first {
-        return 0;
-    }
-    let n = (last - first) as usize;
-    if n < most { n + 1 } else { most }
-}
-
-pub fn tiny() -> [u32; 6144] {
-    [0u32; 6144]
-}
-
-pub fn small() -> [u32; 16384] {
-    [0u32; 16384]
-}
-
-// More entries than the diagonal of the largest box has units.
-pub fn large() -> [u32; 185408] {
-    [0u32; 185408]
 }

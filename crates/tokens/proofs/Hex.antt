@@ -11,7 +11,7 @@ use lib.Dec.{eqb, ltb}
 use lib.ListN.{length, getD, drop}
 use borrow.Author.Tests.{lt-ltb, le-ltb}
 use Rattle.text.specs.Text.{inRange, peekOf, restOf, got}
-use Rattle.text.proofs.Laws.{range-bounds, peek-in, rest-in, Passed, passed-more, passed-below}
+use Rattle.text.proofs.Laws.{range-bounds, peek-in, rest-in, Passed, passed-none, passed-more, passed-below}
 use Rattle.gradient.specs.declared.Color.{Color}
 use Rattle.tokens.specs.Color.{color, isHex, hexValue, digit, long, hexColor, hexOf}
 use Rattle.tokens.specs.declared.HexRun.{HexRun}
@@ -79,6 +79,10 @@ pub record Written (l₀ l : List ℕ) (value n : ℕ) : Type 0 where
   pub passed : Passed isHex l₀ l n
   pub place : l ≡ drop n l₀
   pub number : value ≡ hexNumber l₀ n % 0x100000000
+
+pub written-none : (l : List ℕ) → Written l l 0 0
+unfolding hexNumber
+written-none l = record { passed = passed-none isHex l; place = refl; number = refl }
 
 shifted : (v n d : ℕ) → v ≡ n % 0x100000000 → (v * 16 + d) % 0x100000000 ≡ (n * 16 + d) % 0x100000000
 shifted v n d h = omega arith

@@ -1,11 +1,6 @@
 pub mod Cut
 pub mod Tables
 pub mod Hex
-pub mod Masks
-pub mod AtOnce
-pub mod Joining
-pub mod Pieces
-pub mod FirstDigits
 pub mod Decimal
 pub mod Magnitudes
 pub mod Signed

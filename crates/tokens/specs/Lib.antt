@@ -2,4 +2,3 @@ pub mod Number
 pub mod Color
 pub mod View
 pub mod Worked
-pub mod Packed

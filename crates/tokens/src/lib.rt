@@ -3,15 +3,14 @@ use gradient::Color;
 use text::Cursor;
 use text::Match;
 ghost use mathlib.Core.Path.{_≡_};
-ghost use Prim.Native.Nat.{ℕ, _+_, _*_, _-_, _%_, _≤_, _<_, min};
+ghost use Prim.Native.Nat.{_+_, _*_, _-_, _%_, _≤_, _<_, min};
 ghost use mathlib.Core.Bool.{true};
 ghost use mathlib.Core.List.{[], _∷_};
-ghost use lib.ListN.{length, drop};
+ghost use lib.ListN.{drop};
 ghost use Rattle.text.specs.Text.{mapRead};
 ghost use Rattle.tokens.specs.Number.{isDigit, afterSign, signed, fractionOf, magnitudeOf, unitOf, numberOf, cut, most, upTo};
 ghost use Rattle.tokens.specs.Color.{isHex, hexValue, hexOf, rowOf, namedOf, colorNames, colorOf};
-ghost use Rattle.tokens.specs.View.{DigitsAt, hexNumber, HexAt, fromRgba, fromShort, nameRow, viewAmount, viewUnit, viewNumber, viewColor};
-ghost use Rattle.tokens.specs.Packed.{bytesOf, Packed, filled, HexWord, ValuesOf, SomeHex};
+ghost use Rattle.tokens.specs.View.{DigitsAt, HexAt, fromRgba, fromShort, nameRow, viewAmount, viewUnit, viewNumber, viewColor};
 
 // px, % or deg.
 pub enum Unit {
@@ -48,12 +47,6 @@ pub struct HexRun {
     pub value: u32,
     pub count: usize,
     pub next: Cursor,
-}
-
-// The values of eight hex digits, the first one's in the lowest byte.
-pub enum ValuesRead {
-    Got(u64),
-    Refused,
 }
 
 // A number without sign and unit, in thousandths.
@@ -228,105 +221,12 @@ fn shift_hex(value: u32, b: u8) -> u32
     value % 0x10000000 * 16 + hex_value(b)
 }
 
-// The two bytes from `at` on as one number, the first one lowest; so four, and eight.
-fn two_at(s: &[u8], at: usize) -> u64
-    requires { ⌜ at + 2 ≤ length (now s) ⌝ }
-    ensures { λ r. ⌜ Packed 2 (drop at (now (s .entry))) r ⌝ }
-{
-    (s[at] as u64) + 0x100 * (s[at + 1] as u64)
-}
-
-fn four_at(s: &[u8], at: usize) -> u64
-    requires { ⌜ at + 4 ≤ length (now s) ⌝ }
-    ensures { λ r. ⌜ Packed 4 (drop at (now (s .entry))) r ⌝ }
-{
-    two_at(s, at) + 0x10000 * two_at(s, at + 2)
-}
-
-fn eight_at(s: &[u8], at: usize) -> u64
-    requires { ⌜ at + 8 ≤ length (now s) ⌝ }
-    ensures { λ r. ⌜ bytesOf 8 r ≡ filled 8 (drop at (now (s .entry))) ⌝ }
-{
-    four_at(s, at) + 0x100000000 * four_at(s, at + 4)
-}
-
-// Six bytes so, with the digit 0 in the two highest.
-fn six_at(s: &[u8], at: usize) -> u64
-    requires { ⌜ at + 6 ≤ length (now s) ⌝ }
-    ensures { λ r. ⌜ bytesOf 8 r ≡ filled 6 (drop at (now (s .entry))) ⌝ }
-{
-    four_at(s, at) + 0x100000000 * two_at(s, at + 4) + 0x3030000000000000
-}
-
-// The values of all bytes of x at once, if all are hex digits. In lower case a digit's upper half is 3 and a letter's 6; a letter's value is 9
-// more than its lower half, and is from 10 to 15.
-fn hex_values(x: u64) -> ValuesRead
-    ensures { λ r. ⌜ ValuesOf x r ⌝ }
-{
-    let letters = x & 0x4040404040404040;
-    if (x | letters / 2) & 0xf0f0f0f0f0f0f0f0 != 0x3030303030303030 + letters / 64 * 48 {
-        return ValuesRead::Refused;
-    }
-    let v = (x & 0x0f0f0f0f0f0f0f0f) + 9 * (letters / 64);
-    if v & 0x1010101010101010 != 0 {
-        return ValuesRead::Refused;
-    }
-    if v + 0x0606060606060606 & 0x1010101010101010 != letters / 4 {
-        return ValuesRead::Refused;
-    }
-    ValuesRead::Got(v)
-}
-
-// The number that eight digits of these values write: two digits to a byte, and then the bytes in turn.
-fn joined(v: u64) -> u32
-    ensures { λ r. ⌜ ((x : ℕ) → HexWord x v → r ≡ hexNumber (bytesOf 8 x) 8) ⌝ }
-{
-    let p = 16 * (v & 0x000f000f000f000f) + (v / 256 & 0x000f000f000f000f);
-    (p % 256 * 0x1000000
-        + p / 0x10000 % 256 * 0x10000
-        + p / 0x100000000 % 256 * 256
-        + p / 0x1000000000000) as u32
-}
-
-// The first eight or six hex digits, if there are so many; else none.
-fn first_digits(s: &[u8], c: Cursor) -> HexRun
-    ensures { λ r. ⌜ SomeHex (now (s .entry)) (drop (c .at) (now (s .entry))) r ⌝ }
-{
-    let at = c.at;
-    if at < s.len() {
-        if 8 <= s.len() - at {
-            if let ValuesRead::Got(v) = hex_values(eight_at(s, at)) {
-                return HexRun {
-                    value: joined(v),
-                    count: 8,
-                    next: Cursor { at: at + 8 },
-                };
-            }
-        }
-        if 6 <= s.len() - at {
-            if let ValuesRead::Got(v) = hex_values(six_at(s, at)) {
-                return HexRun {
-                    value: joined(v) / 256,
-                    count: 6,
-                    next: Cursor { at: at + 6 },
-                };
-            }
-        }
-    }
-    HexRun {
-        value: 0,
-        count: 0,
-        next: c,
-    }
-}
-
 fn read_hex_digits(s: &[u8], c: Cursor) -> HexRun
     ensures { λ r. ⌜ HexAt (now (s .entry)) (drop (c .at) (now (s .entry))) r ⌝ }
 {
-    let first = first_digits(s, c);
-    let mut k = first.next;
-    let mut value = first.value;
-    let mut count = first.count;
+    let mut k = c;
+    let mut value: u32 = 0;
+    let mut count: usize = 0;
     while is_hex(text::peek(s, k)) {
         value = shift_hex(value, text::peek(s, k));
         count += 1;

@@ -6,8 +6,8 @@ use native.Mathlib.Nat.{mul-le-mul, mul-le-mul-left, mul-le-mul-right, le-of-mul
 use native.Mathlib.Decide.{decLe}
 use native.Mathlib.Omega.{arith}
 use Rattle.numbers.specs.Fraction.{nearest}
-use Rattle.color.specs.Lent.{mix}
-use Rattle.walk.specs.Walk.{scale, Inside, numeratorAt, Walks, Further, Fits}
+use Rattle.color.specs.Lent.{mix, scale}
+use Rattle.walk.specs.Walk.{InGap, numeratorAt, Walks, Further, Fits}
 use Rattle.walk.specs.declared.Walk.{Walk}
 
 -- ---- a quotient with 54 binary digits after the point, in two rounds
@@ -66,7 +66,7 @@ short-fits g r n e h =
     let m : 510 * g * r ≤ scale = rw e (mul-div-le scale (510 * g)) in
     omega (arith, m, mul-le-mul-right r h)
 
-module _ (p q g s x : ℕ) (i : Inside p q g s x) where
+module _ (p q g s x : ℕ) (i : InGap p q g s x) where
   -- where a walk begins, f is above the exact number by 262,145 to 1,843,232
   pub begin-is : (f u d : ℕ) → numeratorAt p q g x * scale / (510 * g) + 262145 ≤ f → f ≤ numeratorAt p q g x * scale / (510 * g) + 1843232
       → u ≡ 2 * q * s * scale / (510 * g) → d ≡ 2 * p * s * scale / (510 * g) → Walks p q g s x 262144 (record { f = f; up = u; down = d })

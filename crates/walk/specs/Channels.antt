@@ -6,9 +6,9 @@ use Prim.Native.Nat.{ℕ, _+_, _/_}
 use Rattle.numbers.specs.Fraction.{nearest}
 use Rattle.color.specs.Stop.{Channel, red, green, blue, alpha}
 use Rattle.color.specs.Byte.{rgba}
-use Rattle.color.specs.Lent.{valuesAt, mix}
+use Rattle.color.specs.Lent.{valuesAt, mix, scale}
 use Rattle.color.specs.declared.Rgba.{Rgba}
-use Rattle.walk.specs.Walk.{scale, Walks}
+use Rattle.walk.specs.Walk.{Walks}
 use Rattle.walk.specs.declared.Walk.{Walk}
 use Rattle.walk.specs.declared.Channels.{Channels}
 
@@ -18,11 +18,11 @@ walkOf w green = w .green
 walkOf w blue = w .blue
 walkOf w alpha = w .alpha
 
--- the walks in steps of s units at x units from stop i, of g up to the next, that stay right for `left` steps more
+-- walks in steps of s units that are x units from stop i, in a gap of g units, and right for `left` more steps
 abbrev pub Going : List ℕ → ℕ → ℕ → ℕ → ℕ → ℕ → Channels → Type 0
 Going vs i g s x left w = (c : Channel) → Walks (valuesAt vs i c) (valuesAt vs (i + 1) c) g s x left (walkOf w c)
 
--- the walks have the same bytes
+-- the walks are at the same bytes
 abbrev pub Alike : Channels → Channels → Type 0
 Alike w v = (c : Channel) → walkOf w c .f / scale ≡ walkOf v c .f / scale
 

@@ -1,4 +1,5 @@
-// The color along the gap between two stops, location by location and with no division: a walk in fixed point for each channel.
+// The colors between two stops, location by location and with no division: each channel walks in fixed point.
+use color::ONE;
 use color::Rgba;
 ghost use mathlib.Core.Path.{_≡_};
 ghost use mathlib.Core.List.{List};
@@ -7,29 +8,41 @@ ghost use Prim.Native.Nat.{ℕ, _+_, _-_, _*_, _/_, _^_, _≤_, _<_};
 ghost use lib.ListN.{length, getD};
 ghost use Rattle.numbers.specs.Fraction.{nearest};
 ghost use Rattle.color.specs.Stop.{Channel};
-ghost use Rattle.color.specs.Lent.{Small, mix};
-ghost use Rattle.walk.specs.Walk.{scale, Gap, Inside, numeratorAt, Walks, Further, Fits};
+ghost use Rattle.color.specs.Lent.{Small, mix, scale};
+ghost use Rattle.walk.specs.Walk.{mostSteps, shortGap, Gap, InGap, numeratorAt, Walks, Further, Fits};
 ghost use Rattle.walk.specs.Channels.{walkOf, Going, Alike, mixOf};
+
+// The square root of `ONE`.
+const ROOT_OF_ONE: u64 = 134217728;
+
+// How many steps a walk is right for.
+const MOST_STEPS: u64 = 262144;
+
+// How far above the exact number a walk starts, so that its steps, which are rounded down, never take it below.
+const LEAD: u64 = 2 * MOST_STEPS;
+
+// In a gap of at most this many units one over 510 g is exact enough to be multiplied with.
+const SHORT_GAP: u32 = 16384;
 
 // ---- one channel
 
-// What is rounded down to the byte, with 54 binary digits after the point; a step further it is `up` more and `down` less.
+// A channel in fixed point: its byte is f rounded down, and each step adds `up` and takes `down` away.
 pub struct Walk {
     pub f: u64,
     pub up: u64,
     pub down: u64,
 }
 
-// n / d with 54 binary digits after the point.
+// n / d in fixed point.
 fn scaled(n: u64, d: u64) -> u64
     requires { ⌜ (0 < d) × (d < 2 ^ 33) × (n < 512 * d) ⌝ }
     ensures { λ r. ⌜ r ≡ n * scale / d ⌝ }
 {
-    let r = n % d * 134217728;
-    n / d * 18014398509481984 + r / d * 134217728 + r % d * 134217728 / d
+    let r = n % d * ROOT_OF_ONE;
+    n / d * ONE + r / d * ROOT_OF_ONE + r % d * ROOT_OF_ONE / d
 }
 
-// The byte at x units is this over 510 g, rounded down.
+// The byte x units from P's stop is this number over 510 g, rounded down.
 fn numerator(p: u32, q: u32, g: u32, x: u32) -> u64
     requires { ⌜ (p ≤ 65025) × (q ≤ 65025) × (x ≤ g) ⌝ }
     ensures { λ r. ⌜ r ≡ numeratorAt p q g x ⌝ }
@@ -37,32 +50,32 @@ fn numerator(p: u32, q: u32, g: u32, x: u32) -> u64
     2 * ((p as u64) * ((g - x) as u64) + (q as u64) * (x as u64)) + 255 * (g as u64)
 }
 
-// The walk in steps of s units at x units from P's stop, of g up to Q's.
+// The walk in steps of s units that starts x units from P's stop, where Q's stop is g units from P's.
 pub fn begin(p: u32, q: u32, g: u32, s: u32, x: u32) -> Walk
-    requires { ⌜ Inside p q g s x ⌝ }
-    ensures { λ w. ⌜ Walks p q g s x 262144 w ⌝ }
+    requires { ⌜ InGap p q g s x ⌝ }
+    ensures { λ w. ⌜ Walks p q g s x mostSteps w ⌝ }
 {
     let d = 510 * (g as u64);
     Walk {
-        f: scaled(numerator(p, q, g, x), d) + 524288,
+        f: scaled(numerator(p, q, g, x), d) + LEAD,
         up: scaled(2 * (q as u64) * (s as u64), d),
         down: scaled(2 * (p as u64) * (s as u64), d),
     }
 }
 
-// The same where g is at most 16,384, by multiplications: r is one over 510 g.
+// The same in a short gap, by multiplications: r is one over 510 g.
 fn begin_short(p: u32, q: u32, g: u32, s: u32, x: u32, r: u64) -> Walk
-    requires { ⌜ Inside p q g s x × (g ≤ 16384) × (r ≡ scale / (510 * g)) ⌝ }
-    ensures { λ w. ⌜ Walks p q g s x 262144 w ⌝ }
+    requires { ⌜ InGap p q g s x × (g ≤ shortGap) × (r ≡ scale / (510 * g)) ⌝ }
+    ensures { λ w. ⌜ Walks p q g s x mostSteps w ⌝ }
 {
     Walk {
-        f: numerator(p, q, g, x) * r + (130305 * (g as u64) + 262144),
+        f: numerator(p, q, g, x) * r + (130305 * (g as u64) + MOST_STEPS),
         up: 2 * (q as u64) * (s as u64) * r,
         down: 2 * (p as u64) * (s as u64) * r,
     }
 }
 
-// The walk a step further.
+// The walk one step on.
 pub fn next(w: Walk) -> Walk
     ensures { λ v. ⌜ (Fits 1 w → Further 1 w v) ⌝ }
 {
@@ -73,7 +86,7 @@ pub fn next(w: Walk) -> Walk
     }
 }
 
-// The walk 15 steps further.
+// The walk 15 steps on.
 fn leap(w: Walk) -> Walk
     requires { ⌜ Fits 15 w ⌝ }
     ensures { λ v. ⌜ Further 15 w v ⌝ }
@@ -89,10 +102,10 @@ fn leap(w: Walk) -> Walk
 pub fn byte(w: Walk) -> u8
     ensures { λ b. ⌜ ((p q g s x left : ℕ) → Walks p q g s x (left + 1) w → b ≡ nearest (mix p q x (g - x))) ⌝ }
 {
-    (w.f / 18014398509481984 % 256) as u8
+    (w.f / ONE % 256) as u8
 }
 
-// ---- all four
+// ---- all four channels
 
 pub struct Channels {
     pub red: Walk,
@@ -101,26 +114,26 @@ pub struct Channels {
     pub alpha: Walk,
 }
 
-// The walk from number k to number m, the same channel of the next stop.
+// The walk from value k to value m, which is the same channel of the next stop.
 fn begin_channel(values: &[u32], k: usize, m: usize, g: u32, s: u32, x: u32) -> Walk
     requires { ⌜ (k < length (now values)) × (m < length (now values)) × Small (now values) × Gap g s x ⌝ }
-    ensures { λ w. ⌜ Walks (getD (now (values .entry)) k 0) (getD (now (values .entry)) m 0) g s x 262144 w ⌝ }
+    ensures { λ w. ⌜ Walks (getD (now (values .entry)) k 0) (getD (now (values .entry)) m 0) g s x mostSteps w ⌝ }
 {
     begin(values[k], values[m], g, s, x)
 }
 
-// The same where g is at most 16,384: r is one over 510 g.
+// The same in a short gap: r is one over 510 g.
 fn begin_short_channel(values: &[u32], k: usize, m: usize, g: u32, s: u32, x: u32, r: u64) -> Walk
-    requires { ⌜ (k < length (now values)) × (m < length (now values)) × Small (now values) × Gap g s x × (g ≤ 16384) × (r ≡ scale / (510 * g)) ⌝ }
-    ensures { λ w. ⌜ Walks (getD (now (values .entry)) k 0) (getD (now (values .entry)) m 0) g s x 262144 w ⌝ }
+    requires { ⌜ (k < length (now values)) × (m < length (now values)) × Small (now values) × Gap g s x × (g ≤ shortGap) × (r ≡ scale / (510 * g)) ⌝ }
+    ensures { λ w. ⌜ Walks (getD (now (values .entry)) k 0) (getD (now (values .entry)) m 0) g s x mostSteps w ⌝ }
 {
     begin_short(values[k], values[m], g, s, x, r)
 }
 
-// The walks in steps of s units at x units from stop i, of g up to the next: g is at most 16,384.
+// The walks in steps of s units that start x units from stop i, in a short gap of g units.
 pub fn begin_short_all(values: &[u32], i: usize, g: u32, s: u32, x: u32) -> Channels
-    requires { ⌜ (4 * i + 7 < length (now values)) × Small (now values) × Gap g s x × (g ≤ 16384) ⌝ }
-    ensures { λ w. ⌜ Going (now (values .entry)) i g s x 262144 w ⌝ }
+    requires { ⌜ (4 * i + 7 < length (now values)) × Small (now values) × Gap g s x × (g ≤ shortGap) ⌝ }
+    ensures { λ w. ⌜ Going (now (values .entry)) i g s x mostSteps w ⌝ }
 {
     let k = 4 * i;
     let m = 4 * (i + 1);
@@ -133,10 +146,10 @@ pub fn begin_short_all(values: &[u32], i: usize, g: u32, s: u32, x: u32) -> Chan
     }
 }
 
-// The same for any g.
+// The same in any gap.
 pub fn begin_long_all(values: &[u32], i: usize, g: u32, s: u32, x: u32) -> Channels
     requires { ⌜ (4 * i + 7 < length (now values)) × Small (now values) × Gap g s x ⌝ }
-    ensures { λ w. ⌜ Going (now (values .entry)) i g s x 262144 w ⌝ }
+    ensures { λ w. ⌜ Going (now (values .entry)) i g s x mostSteps w ⌝ }
 {
     let k = 4 * i;
     let m = 4 * (i + 1);
@@ -148,18 +161,18 @@ pub fn begin_long_all(values: &[u32], i: usize, g: u32, s: u32, x: u32) -> Chann
     }
 }
 
-// The sooner of the two. It has one caller: a compiler then makes it part of that, and keeps the walks of a short gap out of memory.
+// The faster of the two. It has one caller, so a compiler inlines it and keeps the walks of a short gap in registers.
 pub fn begin_all(values: &[u32], i: usize, g: u32, s: u32, x: u32) -> Channels
     requires { ⌜ (4 * i + 7 < length (now values)) × Small (now values) × Gap g s x ⌝ }
-    ensures { λ w. ⌜ Going (now (values .entry)) i g s x 262144 w ⌝ }
+    ensures { λ w. ⌜ Going (now (values .entry)) i g s x mostSteps w ⌝ }
 {
-    if g <= 16384 {
+    if g <= SHORT_GAP {
         return begin_short_all(values, i, g, s, x);
     }
     begin_long_all(values, i, g, s, x)
 }
 
-// The walks a step further.
+// The walks one step on.
 pub fn next_all(w: Channels) -> Channels
     ensures { λ v. ⌜ ((c : Channel) → Fits 1 (walkOf w c) → Further 1 (walkOf w c) (walkOf v c)) ⌝ }
 {
@@ -171,7 +184,7 @@ pub fn next_all(w: Channels) -> Channels
     }
 }
 
-// The walks 15 steps further.
+// The walks 15 steps on.
 pub fn leap_all(w: Channels) -> Channels
     requires { ⌜ ((c : Channel) → Fits 15 (walkOf w c)) ⌝ }
     ensures { λ v. ⌜ ((c : Channel) → Further 15 (walkOf w c) (walkOf v c)) ⌝ }
@@ -184,14 +197,14 @@ pub fn leap_all(w: Channels) -> Channels
     }
 }
 
-// Whether both have the same byte.
+// Whether two walks are at the same byte.
 fn same_byte(w: Walk, v: Walk) -> bool
     ensures { λ r. ⌜ (r ≡ true → w .f / scale ≡ v .f / scale) ⌝ }
 {
-    w.f / 18014398509481984 == v.f / 18014398509481984
+    w.f / ONE == v.f / ONE
 }
 
-// Whether both have the same bytes.
+// Whether all four bytes are the same.
 pub fn alike(w: Channels, v: Channels) -> bool
     ensures { λ r. ⌜ (r ≡ true → Alike w v) ⌝ }
 {

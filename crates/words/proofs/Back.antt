@@ -37,6 +37,6 @@ pub sized : (z : ℤ) → natAbs z < 2 ^ 31 → toZ w32 (ofZ w32 z) ≡ z
 sized (pos n) h = toZ-ofZ w32 (pos n) (record { sfits = h })
 sized (negsuc n) h = toZ-ofZ w32 (negsuc n) (record { sfits = omega arith })
 
--- the signed number of a word, held as the word's bits again
+-- the signed number of a word, as the word's bits again
 pub kept : (w : ℕ) → Fits w32 w → (r : ℤ) → r ≡ toZ w32 w → toZ w32 (ofZ w32 r) ≡ toZ w32 w
 kept w f r e = rw e (toZ-ofZ w32 (toZ w32 w) (toZ-fits w32 w f))

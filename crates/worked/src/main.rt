@@ -21,8 +21,8 @@ fn say(label: &[u8], n: u64) {
     io::write_all(STDOUT_FILENO, b"\n");
 }
 
-// A number that is held with 2^25 added.
-fn say_held(label: &[u8], u: u32) {
+// A number that is with 2^25 added.
+fn say_biased(label: &[u8], u: u32) {
     io::write_all(STDOUT_FILENO, label);
     if u < 33554432 {
         io::write_all(STDOUT_FILENO, b"-");
@@ -77,9 +77,9 @@ fn farthest() -> Shape
 }
 
 fn main() {
-    say_held(b"0.01px: ", numbers::length_units(10));
-    say_held(b"-0.01px: ", numbers::length_units(-10));
-    say_held(
+    say_biased(b"0.01px: ", numbers::length_units(10));
+    say_biased(b"-0.01px: ", numbers::length_units(-10));
+    say_biased(
         b"33.333% of 12800: ",
         numbers::percentage_units(33333, 12800),
     );

@@ -1,6 +1,6 @@
 -- `avarezhu::avarezhu_draw_gradient` meets its contract. Assumes nothing.
 use mathlib.Core.Path.{sym, _∙_}
-use Rattle.gradient.proofs.Laws.{orElse-first, orElse-next}
+use Rattle.replies.proofs.Laws.{orElse-first, orElse-next}
 use Rattle.drawing.proofs.Accurate.{not-drawn}
 use Rattle.avarezhu.proofs.Slices.{gradient-reply, drawn-taken}
 use borrow.Author.Needs.{needs}

@@ -1,7 +1,7 @@
 -- `avarezhu::avarezhu_draw_stops` meets its contract. Assumes nothing.
 use mathlib.Core.Path.{sym, ap₂, _∙_}
-use Rattle.gradient.proofs.Laws.{orElse-first, orElse-next}
-use Rattle.drawing.specs.Replies.{lowest}
+use Rattle.replies.specs.Replies.{lowest}
+use Rattle.replies.proofs.Laws.{orElse-first, orElse-next}
 use Rattle.drawing.proofs.Accurate.{not-drawn}
 use Rattle.avarezhu.proofs.Slices.{gradient-reply, list-reply, drawn-stops}
 use borrow.Author.Needs.{needs}

@@ -1,10 +1,9 @@
 -- `avarezhu::avarezhu_read` meets its contract. Assumes nothing.
 use mathlib.Core.Path.{sym, ap, _∙_}
-use native.Mathlib.Omega.{arith}
 use denote.Ref.{now}
 use lib.ListN.{length}
-use borrow.Author.Tests.{lt-ltb, le-ltb}
-use Rattle.gradient.proofs.Laws.{given-first, given-next}
+use borrow.Author.Tests.{ltb-false}
+use Rattle.replies.proofs.Laws.{orElse-first, orElse-next, given-zero}
 use Rattle.reader.specs.declared.Reading.{Reading}
 use Rattle.picture.specs.Picture.{padded}
 use Rattle.layout.specs.Words.{layoutOf}
@@ -13,6 +12,9 @@ use Rattle.avarezhu.proofs.Slices.{handed, not-handed}
 use borrow.Author.Needs.{needs}
 use Rattle.avarezhu.proofs.avarezhu_read.Statement.{statement}
 use Rattle.avarezhu.proofs.avarezhu_read.Tie as tie
+
+size-reply-requires : tie.Need-size-reply-requires
+size-reply-requires c κs = search needs
 
 refuse-requires : tie.Need-refuse-requires
 refuse-requires c κs = search needs
@@ -24,7 +26,7 @@ returns : tie.Need-returns
 unfolding readCall
 returns c =
     let e = c .before .before .refuse .ensures in
-    not-handed _ (e .0 ∙ given-first _ (lt-ltb _ _ (c .before .before .before .before .if1 .taken))) (λ z. omega (arith, e .0)) (e .1)
+    not-handed _ (e .0 ∙ orElse-first _ (c .before .before .before .before .before .size-reply .ensures) (c .before .before .before .before .if1 .taken)) (λ z. c .before .before .before .before .if1 .taken (sym (e .0) ∙ z)) (e .1)
 
 read-requires : tie.Need-read-requires
 read-requires c κs = search needs
@@ -39,10 +41,10 @@ returns-2 : tie.Need-returns-2
 unfolding readCall
 returns-2 c =
     let e = c .before .before .refuse2 .ensures in
-    not-handed _ (e .0 ∙ given-next 2 (le-ltb _ _ (c .before .before .before .before .before .before .before .if1 .left)) (ap (λ (x : Reading). x .reply) (c .before .before .before .before .before .before .read .ensures))) (λ z. c .before .before .before .before .if2 .taken (sym (e .0) ∙ z)) (e .1)
+    not-handed _ (e .0 ∙ orElse-next (sym (c .before .before .before .before .before .before .before .before .size-reply .ensures) ∙ c .before .before .before .before .before .before .before .if1 .left) (ap (λ (x : Reading). x .reply) (c .before .before .before .before .before .before .read .ensures))) (λ z. c .before .before .before .before .if2 .taken (sym (e .0) ∙ z)) (e .1)
 
 write-requires : tie.Need-write-requires
-write-requires c κs = search needs
+write-requires c κs = ltb-false _ _ (given-zero _ _ (sym (c .before .before .before .before .before .size-reply .ensures) ∙ c .before .before .before .before .if1 .left))
 
 same-length-3 : tie.Need-same-length-3
 same-length-3 c = search needs
@@ -51,13 +53,14 @@ returns-3 : tie.Need-returns-3
 unfolding readCall
 returns-3 c =
     let r = c .before .before .before .before .before .before .read in
-    handed (sym (given-next 2 (le-ltb _ _ (c .before .before .before .before .before .before .before .if1 .left)) (sym (c .before .before .before .before .if2 .left) ∙ ap (λ (x : Reading). x .reply) (r .ensures))))
-    (c .before .before .write .ensures ∙ ap (λ (x : Reading). padded (length (now (c .before .before .before .before .before .before .before .before .before .before .args .out))) (layoutOf (x .gradient))) (r .ensures))
+    handed (sym (orElse-next (sym (c .before .before .before .before .before .before .before .before .size-reply .ensures) ∙ c .before .before .before .before .before .before .before .if1 .left) (sym (c .before .before .before .before .if2 .left) ∙ ap (λ (x : Reading). x .reply) (r .ensures))))
+    (c .before .before .write .ensures ∙ ap (λ (x : Reading). padded (length (now (c .before .before .before .before .before .before .before .before .before .before .before .args .out))) (layoutOf (x .gradient))) (r .ensures))
 
 pub avarezhu-read-spec : {M : Type 1} → statement M
 avarezhu-read-spec =
     tie.close
     (tie.spec
+    size-reply-requires
     refuse-requires
     same-length
     returns

@@ -35,20 +35,20 @@ mul-n c = omega arith
 loop-holds : tie.Need-loop-holds Inv-loop μ-loop
 loop-holds c = (rw strip-none (patch-none (now (c .before .before .args .buf)) 0), rw (sub-self, mul-zero), omega arith, omega arith, refl)
 
-sub-place : tie.Need-sub-place Inv-loop μ-loop
-sub-place c = omega arith
+sub-from-start : tie.Need-sub-from-start Inv-loop μ-loop
+sub-from-start c = omega arith
 
-sub-place-2 : tie.Need-sub-place-2 Inv-loop μ-loop
-sub-place-2 c = omega arith
+sub-from-start-2 : tie.Need-sub-from-start-2 Inv-loop μ-loop
+sub-from-start-2 c = omega arith
 
-place-requires : tie.Need-place-requires Inv-loop μ-loop
-place-requires c κs = omega arith
+from-start-requires : tie.Need-from-start-requires Inv-loop μ-loop
+from-start-requires c κs = omega arith
 
 mul-fill-words : tie.Need-mul-fill-words Inv-loop μ-loop
-mul-fill-words c = omega (arith, c .before .place .ensures .1)
+mul-fill-words c = omega (arith, c .before .from-start .ensures .1)
 
 shared-slice-read-fill-words : tie.Need-shared-slice-read-fill-words Inv-loop μ-loop
-shared-slice-read-fill-words c = omega (arith, c .before .before .place .ensures .1)
+shared-slice-read-fill-words c = omega (arith, c .before .before .from-start .ensures .1)
 
 fill-words-requires : tie.Need-fill-words-requires Inv-loop μ-loop
 fill-words-requires c κs = omega (arith, room (c .before .before .before))
@@ -68,7 +68,7 @@ loop-again c =
     let a = s .args in
     let l = c .before .before .before .before .before .before .before .loop in
     let px : (ℕ → ℕ → List ℕ) = byRow (now (a .t)) (a .back) (a .a) (a .b) in
-    let e = ap (λ (k : ℕ). copies (a .w) (wordBytes (getD (now (a .t)) k 0))) (c .before .before .before .before .before .place .ensures .0) ∙ sym (row-copies px (a .w) (l .j) (px 0 (l .j)) (λ i m. refl)) in (
+    let e = ap (λ (k : ℕ). copies (a .w) (wordBytes (getD (now (a .t)) k 0))) (c .before .before .before .before .before .from-start .ensures .0) ∙ sym (row-copies px (a .w) (l .j) (px 0 (l .j)) (λ i m. refl)) in (
       rows-turn px (λ i j. refl) (a .w) (a .a) (a .b) (l .j) (l .o) (now (a .buf)) (l .buf) _ _ (l .inv .2) (omega arith) (l .inv .1) (s .pre .3) (l .inv .0) e (c .before .before .fill-words .ensures),
       omega (arith, times-more (4 * a .w) (a .a) (l .j) (l .inv .2)),
       omega arith,
@@ -92,9 +92,9 @@ draw-entries-spec =
     μ-loop
     mul-n
     loop-holds
-    sub-place
-    sub-place-2
-    place-requires
+    sub-from-start
+    sub-from-start-2
+    from-start-requires
     mul-fill-words
     shared-slice-read-fill-words
     fill-words-requires

@@ -23,14 +23,14 @@ abbrev μ-loop : tie.MeasureT-loop
 loop-holds : tie.Need-loop-holds Inv-loop μ-loop
 loop-holds c = (rw row-none (patch-none (now (c .before .before .args .bytes)) (c .before .before .args .at)), omega arith, omega arith, refl)
 
-place-requires : tie.Need-place-requires Inv-loop μ-loop
-place-requires c κs = omega arith
+from-start-requires : tie.Need-from-start-requires Inv-loop μ-loop
+from-start-requires c κs = omega arith
 
 mul-put-word : tie.Need-mul-put-word Inv-loop μ-loop
-mul-put-word c = omega (arith, c .before .place .ensures .1)
+mul-put-word c = omega (arith, c .before .from-start .ensures .1)
 
 shared-slice-read-put-word : tie.Need-shared-slice-read-put-word Inv-loop μ-loop
-shared-slice-read-put-word c = omega (arith, c .before .before .place .ensures .1)
+shared-slice-read-put-word c = omega (arith, c .before .before .from-start .ensures .1)
 
 put-word-requires : tie.Need-put-word-requires Inv-loop μ-loop
 put-word-requires c κs = omega arith
@@ -49,7 +49,7 @@ loop-again c =
     let a = c .before .before .before .before .before .before .before .before .before .before .args in
     let l = c .before .before .before .before .before .before .before .loop in
     let px : (ℕ → ℕ → List ℕ) = byColumn (now (a .t)) (a .back) (a .w) in
-    let e = c .before .before .put-word .ensures ∙ ap (λ (k : ℕ). patched (l .bytes) (l .o) (wordBytes (getD (now (a .t)) k 0))) (c .before .before .before .before .before .place .ensures .0) in (
+    let e = c .before .before .put-word .ensures ∙ ap (λ (k : ℕ). patched (l .bytes) (l .o) (wordBytes (getD (now (a .t)) k 0))) (c .before .before .before .before .before .from-start .ensures .0) in (
       rw row-more (patch-step (now (a .bytes)) (row px (l .i) 0) (px (l .i) 0) (l .bytes) _ (a .at) (l .o) (rw (row-length px (λ i j. refl)) (omega arith)) (omega arith) (l .inv .0) e),
       omega arith,
       omega arith,
@@ -71,7 +71,7 @@ write-row-spec =
     Inv-loop
     μ-loop
     loop-holds
-    place-requires
+    from-start-requires
     mul-put-word
     shared-slice-read-put-word
     put-word-requires

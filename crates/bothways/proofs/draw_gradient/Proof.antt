@@ -12,7 +12,7 @@ placedReady : (c : tie.After-place-in-box) → Ready (c .place-in-box .result)
 placedReady c =
     let s = c .before .before .before .before in
     let full : length (s .args .g .stops) ≡ 16 = search (unmapped, needs) in
-    subst Ready (sym (c .place-in-box .ensures)) (ready _ (placed-accepted (s .args .g) (s .args .w) (s .args .h) (s .pre .0) (s .pre .1) full))
+    subst Ready (sym (c .place-in-box .ensures)) (ready _ (placed-accepted (s .args .g) (s .args .z .w) (s .args .z .h) (s .pre .0) (s .pre .1) full))
 
 line-of-requires : tie.Need-line-of-requires
 line-of-requires c κs = search needs
@@ -24,7 +24,7 @@ draw-stops-requires : tie.Need-draw-stops-requires
 draw-stops-requires c κs =
     let s = c .before .before .before .before .before .before in
     let r : Ready (c .before .before .place-in-box .result) = placedReady (c .before .before) in
-    (record { box = s .pre .0; sound = c .before .before .before .line-of .ensures .sound }, r .held, r .some, s .pre .2, s .pre .3)
+    (record { box = s .pre .0; sound = c .before .before .before .line-of .ensures .sound }, r .lendable, r .some, s .pre .2, s .pre .3)
 
 same-length : tie.Need-same-length
 same-length c = search needs

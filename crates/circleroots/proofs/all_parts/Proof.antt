@@ -3,7 +3,7 @@ use native.Mathlib.Omega.{arith}
 use denote.Ref.{now}
 use borrow.Author.Needs.{needs}
 use Rattle.circleroots.proofs.Far.{beyond-before, beyond-after, near-short}
-use Rattle.circleroots.proofs.Parts.{still, follows-join}
+use Rattle.circleroots.proofs.Parts.{still, two-join}
 use Rattle.circleroots.proofs.all_parts.Statement.{statement}
 use Rattle.circleroots.proofs.all_parts.Tie as tie
 
@@ -82,8 +82,8 @@ returns-2 c =
     let a = s .args in
     let p = c .before .before .before .before .before .before .before .before .before .before .before .before .before .first-of in
     let q = c .before .before .before .before .before .before .before .before .before .before .before .before .end-of in
-    follows-join (a .c) (a .j) 0 (q .result) (a .w) (now (a .last)) (now (a .before)) _ _ (omega arith) (q .ensures .1)
-    (follows-join (a .c) (a .j) 0 (p .result) (q .result) (now (a .last)) (now (a .before)) _ _ (omega arith) (omega (arith, p .ensures, q .ensures .0))
+    two-join (a .c) (a .j) 0 (q .result) (a .w) (now (a .last)) (now (a .before)) _ _ (omega arith) (q .ensures .1)
+    (two-join (a .c) (a .j) 0 (p .result) (q .result) (now (a .last)) (now (a .before)) _ _ (omega arith) (omega (arith, p .ensures, q .ensures .0))
     (c .before .before .before .before .before .before .before .before .before .before .far-part2 .ensures) (c .before .before .before .before .before .before .near-parts .ensures)) (c .before .before .far-part3 .ensures)
 
 pub all-parts-spec : {M : Type 1} → statement M

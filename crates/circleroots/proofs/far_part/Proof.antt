@@ -1,20 +1,21 @@
--- `circleroots::far_part` meets its contract. The invariant: the numbers so far are found from two numbers each, and the others are as they were.
+-- `circleroots::far_part` meets its contract. The invariant: each number so far is found from two others, and the rest are as they were.
 -- Assumes nothing.
-use mathlib.Core.Path.{_≡_, refl, ap, _∙_}
-use Prim.Native.Nat.{ℕ, _-_, _%_, _≤_}
+use mathlib.Core.Path.{_≡_, refl, _∙_}
+use Prim.Native.Nat.{ℕ, _-_, _≤_}
 use native.Mathlib.Omega.{arith}
 use lib.ListN.{length, length-set}
 use borrow.Author.Needs.{needs}
-use Rattle.circleroots.specs.Squares.{squareOf, Kept}
+use Rattle.lowroots.specs.Found.{rootLimit}
+use Rattle.circleroots.specs.Squares.{Kept}
 use Rattle.circleroots.proofs.Parts.{Each, each-set, kept-none, kept-set}
-use Rattle.circleroots.proofs.Rows.{AheadAt, far-is}
+use Rattle.circleroots.proofs.Rows.{AheadAt, far-found}
 use Rattle.circleroots.proofs.far_part.Statement.{statement}
 use Rattle.circleroots.proofs.far_part.Tie as tie
 
 abbrev Inv-loop : tie.InvT-loop
 Inv-loop before₀ last low w j a b r i₀ before i =
     (a ≤ i) × (i ≤ b) × (length before ≡ length before₀)
-    × Each (AheadAt 4 134217728 low r before₀ last) a i before × Kept a i before₀ before
+    × Each (AheadAt 4 rootLimit low r before₀ last) a i before × Kept a i before₀ before
 
 abbrev μ-loop : tie.MeasureT-loop
 μ-loop before₀ last low w j a b r i₀ before i = b - i
@@ -76,7 +77,7 @@ loop-again c =
       omega arith,
       omega arith,
       length-set (l .before) (l .i) b ∙ l .inv .2,
-      each-set (AheadAt 4 134217728 (a .low .now) (c .before .before .before .before .before .before .before .before .low-half .result) (a .before .now) (a .last .now)) (a .a) (l .i) (l .before) b (omega arith) (l .inv .3)
+      each-set (AheadAt 4 rootLimit (a .low .now) (c .before .before .before .before .before .before .before .before .low-half .result) (a .before .now) (a .last .now)) (a .a) (l .i) (l .before) b (omega arith) (l .inv .3)
           (rw (← c .before .before .before .before .wrapping-add-u32 .ensures, ← l .inv .4 .after (l .i) (omega arith)) (record { guess = g .result; fits = omega arith; is = g .ensures; found = c .among-4 .ensures })),
       kept-set (a .a) (l .i) (a .before .now) (l .before) b (omega arith) (l .inv .4),
     )
@@ -88,17 +89,9 @@ returns : tie.Need-returns Inv-loop μ-loop
 returns c =
     let s = c .before .before .before .before .before .before .before in
     let a = s .args in
-    let g = s .pre .0 in
     let l = c .before .loop in
-    let own : c .before .before .low-half .result ≡ squareOf (a .c .y) (a .j) % 4294967296 =
-    c .before .before .low-half .ensures ∙ ap (λ (x : ℕ). x % 4294967296) (c .before .before .before .square .ensures .0) in
-    let e : l .i ≡ a .b = omega arith in
-    record {
-      kept = rw (← e) (l .inv .4);
-      part = λ k m ek em two one.
-          far-is (a .c) (a .w) (a .j) (g .near) (g .width) (g .height) (a .low .now) (g .halves) (a .a) (a .b) (s .pre .2) _ own (a .before .now) (a .last .now) (l .before) k m ek em two one
-          (λ i p q. l .inv .3 i p (omega arith)) (s .pre .3);
-    }
+    far-found (a .c) (a .w) (a .j) (a .low .now) _ _ (s .pre .0) (a .a) (a .b) (s .pre .2) _ _ (c .before .before .low-half .ensures) (c .before .before .before .square .ensures .0)
+    (a .before .now) (a .last .now) (l .before) (l .i) (omega arith) (l .inv .3) (l .inv .4) (s .pre .3)
 
 pub far-part-spec : {M : Type 1} → statement M
 far-part-spec =

@@ -6,33 +6,23 @@ use borrow.Author.Needs.{needs}
 use Rattle.circleroots.proofs.location.Statement.{statement}
 use Rattle.circleroots.proofs.location.Tie as tie
 
-mul-circle-root : tie.Need-mul-circle-root
-mul-circle-root c = search needs
-
-shared-slice-read-circle-root : tie.Need-shared-slice-read-circle-root
-shared-slice-read-circle-root c = search needs
+square-requires : tie.Need-square-requires
+square-requires c κs = let s = c in (s .pre .0 .near .x, s .pre .1)
 
 add-circle-root : tie.Need-add-circle-root
 add-circle-root c =
-    let s = c .before .before in
+    let s = c .before in
     let g = s .args in
-    omega (arith, sum-fits (g .c) (g .w) (g .j) (g .squares .now) (g .row) (s .pre .0) (g .i) (s .pre .1))
+    omega (arith, sum-fits (g .c) (g .i) (g .j) (g .own) (c .square .result) (s .pre .0) (s .pre .1) (c .square .ensures .0))
 
 circle-root-requires : tie.Need-circle-root-requires
 circle-root-requires c κs = search needs
 
 returns : tie.Need-returns
 returns c =
-    let s = c .before .before .before in
+    let s = c .before .before in
     let g = s .args in
-    c .circle-root .ensures ∙ location-is (g .c) (g .w) (g .j) (g .squares .now) (g .row) (s .pre .0) (g .i) (s .pre .1)
+    c .circle-root .ensures ∙ location-is (g .c) (g .i) (g .j) (g .own) (c .before .square .result) (s .pre .0) (s .pre .1) (c .before .square .ensures .0)
 
 pub location-spec : {M : Type 1} → statement M
-location-spec =
-    tie.close
-    (tie.spec
-    mul-circle-root
-    shared-slice-read-circle-root
-    add-circle-root
-    circle-root-requires
-    returns)
+location-spec = tie.close (tie.spec square-requires add-circle-root circle-root-requires returns)

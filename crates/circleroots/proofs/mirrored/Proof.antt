@@ -11,8 +11,8 @@ returns c = search needs
 returns-2 : tie.Need-returns-2
 returns-2 c = search needs
 
-cast-both : tie.Need-cast-both
-cast-both c = search needs
+cast-sum : tie.Need-cast-sum
+cast-sum c = search needs
 
 add-if3 : tie.Need-add-if3
 add-if3 c = search needs
@@ -42,7 +42,7 @@ mirrored-spec =
     (tie.spec
     returns
     returns-2
-    cast-both
+    cast-sum
     add-if3
     add-if3-2
     returns-3

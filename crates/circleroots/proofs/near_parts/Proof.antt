@@ -5,7 +5,7 @@ use denote.Ref.{now}
 use lib.ListN.{length}
 use borrow.Author.Needs.{needs}
 use Rattle.circleroots.proofs.Far.{beyond-before, beyond-after}
-use Rattle.circleroots.proofs.Parts.{still, follows-join, follows-one, end-within}
+use Rattle.circleroots.proofs.Parts.{still, two-join, two-of-one, end-within}
 use Rattle.circleroots.proofs.near_parts.Statement.{statement}
 use Rattle.circleroots.proofs.near_parts.Tie as tie
 
@@ -71,10 +71,10 @@ returns-2 c =
     let one = c .before .before .before .before .before .before .before .before .before .before .near-part2 in
     let two = c .before .before .before .before .before .before .next-part in
     let three = c .before .before .near-part3 in
-    follows-join (a .c) (a .j) (a .a) (q .result) (a .b) (now (a .last)) (now (a .before)) _ _ (omega arith)
+    two-join (a .c) (a .j) (a .a) (q .result) (a .b) (now (a .last)) (now (a .before)) _ _ (omega arith)
     (end-within (q .result) (a .b) (a .w) (a .m + 7 + 1) (q .ensures .1) (q .ensures .2) (λ h. omega (arith, s .pre .5 h)))
-    (follows-join (a .c) (a .j) (a .a) (p .result) (q .result) (now (a .last)) (now (a .before)) _ _ (omega arith) (omega arith) (one .ensures)
-    (follows-one (a .c) (a .j) (p .result) (q .result) (now (a .last)) _ _ (two .ensures .0) (two .ensures .1))) (three .ensures)
+    (two-join (a .c) (a .j) (a .a) (p .result) (q .result) (now (a .last)) (now (a .before)) _ _ (omega arith) (omega arith) (one .ensures)
+    (two-of-one (a .c) (a .j) (p .result) (q .result) (now (a .last)) _ _ (two .ensures))) (three .ensures)
 
 pub near-parts-spec : {M : Type 1} → statement M
 near-parts-spec =

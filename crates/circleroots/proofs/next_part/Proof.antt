@@ -1,13 +1,13 @@
--- `circleroots::next_part` meets its contract. The invariant: the numbers so far are found from one number each, and the others are as they were.
+-- `circleroots::next_part` meets its contract. The invariant: each number so far is found from one other, and the rest are as they were.
 -- Assumes nothing.
-use mathlib.Core.Path.{_≡_, refl, ap, _∙_}
-use Prim.Native.Nat.{ℕ, _-_, _%_, _≤_}
+use mathlib.Core.Path.{_≡_, refl, _∙_}
+use Prim.Native.Nat.{ℕ, _-_, _≤_}
 use native.Mathlib.Omega.{arith}
 use lib.ListN.{length, length-set}
 use borrow.Author.Needs.{needs}
-use Rattle.circleroots.specs.Squares.{squareOf, Kept}
+use Rattle.circleroots.specs.Squares.{Kept}
 use Rattle.circleroots.proofs.Parts.{Each, each-set, kept-none, kept-set}
-use Rattle.circleroots.proofs.Rows.{OnwardAt, next-is}
+use Rattle.circleroots.proofs.Rows.{OnwardAt, next-found}
 use Rattle.circleroots.proofs.next_part.Statement.{statement}
 use Rattle.circleroots.proofs.next_part.Tie as tie
 
@@ -84,17 +84,10 @@ returns : tie.Need-returns Inv-loop μ-loop
 returns c =
     let s = c .before .before .before .before .before .before .before .before in
     let a = s .args in
-    let g = s .pre .0 in
     let l = c .before .loop in
     let d = c .before .before .descent in
-    let own : c .before .before .before .low-half .result ≡ squareOf (a .c .y) (a .j) % 4294967296 =
-    c .before .before .before .low-half .ensures ∙ ap (λ (x : ℕ). x % 4294967296) (c .before .before .before .before .square .ensures .0) in
-    let e : l .i ≡ a .b = omega arith in (
-      rw (← e) (l .inv .4),
-      λ m em one.
-          next-is (a .c) (a .w) (a .j) (g .near) (g .width) (g .height) (a .low .now) (g .halves) (a .a) (a .b) (s .pre .2) _ own (a .last .now) (l .before) m em one (s .pre .3)
-          (d .result) (d .ensures .0) (d .ensures .1) (λ i p q. l .inv .3 i p (omega arith)),
-    )
+    next-found (a .c) (a .w) (a .j) (a .low .now) _ _ (s .pre .0) (a .a) (a .b) (s .pre .2) _ _ (c .before .before .before .low-half .ensures) (c .before .before .before .before .square .ensures .0)
+    (a .before .now) (a .last .now) (l .before) (l .i) (omega arith) (d .result) (d .ensures .0) (d .ensures .1) (l .inv .3) (l .inv .4) (s .pre .3)
 
 pub next-part-spec : {M : Type 1} → statement M
 next-part-spec =

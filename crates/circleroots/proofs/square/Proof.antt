@@ -2,7 +2,7 @@
 use mathlib.Core.Path.{_≡_, ap, _∙_}
 use Prim.Native.Nat.{ℕ, _+_, _*_, _<_}
 use native.Mathlib.Omega.{arith}
-use Rattle.line.proofs.Circles.{from-held}
+use Rattle.line.proofs.Circles.{from-biased}
 use Rattle.circleroots.specs.Squares.{squareOf}
 use Rattle.circleroots.proofs.Columns.{square-below}
 use borrow.Author.Needs.{needs}
@@ -10,7 +10,7 @@ use Rattle.circleroots.proofs.square.Statement.{statement}
 use Rattle.circleroots.proofs.square.Tie as tie
 
 is : (c : tie.After-apart) → c .apart .result * c .apart .result ≡ squareOf (c .before .args .c) (c .before .args .i)
-is c = let g = c .before .args in ap (λ (m : ℕ). m * m) (c .apart .ensures ∙ from-held (g .c) (64 * g .i + 32))
+is c = let g = c .before .args in ap (λ (m : ℕ). m * m) (c .apart .ensures ∙ from-biased (g .c) (64 * g .i + 32))
 
 small : (c : tie.After-apart) → c .apart .result * c .apart .result < 4503599627370496
 small c = rw (is c) (square-below (c .before .args .c) (c .before .args .i) (c .before .pre .0) (c .before .pre .1))

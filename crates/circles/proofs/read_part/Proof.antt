@@ -2,7 +2,7 @@
 use borrow.Author.Needs.{needs}
 use Rattle.text.specs.View.{viewMatch}
 use Rattle.text.proofs.Laws.{seen}
-use Rattle.heads.specs.View.{viewHorizontal, viewVertical}
+use Rattle.directions.specs.View.{viewHorizontal, viewVertical}
 use Rattle.circles.specs.Position.{partOf}
 use Rattle.circles.specs.View.{viewCoordinate}
 use Rattle.circles.proofs.read_part.Statement.{statement}

@@ -1,7 +1,7 @@
 -- `color::last_up_to` meets its contract. The invariant: no position from `place` on is at or below. Assumes nothing.
-use mathlib.Core.Path.{_≡_, refl, sym, _∙_, ap}
-use mathlib.Core.List.{List, []}
-use Prim.Native.Nat.{ℕ, _≤_, _<_}
+use mathlib.Core.Path.{_≡_, sym, _∙_, ap}
+use mathlib.Core.List.{List}
+use Prim.Native.Nat.{ℕ, _-_, _≤_}
 use native.Mathlib.Omega.{arith}
 use lib.ListN.{length, take}
 use lib.Seq.{take-length}
@@ -29,6 +29,9 @@ mul-if1 c = search needs
 
 shared-slice-read-if1 : tie.Need-shared-slice-read-if1 Inv-loop μ-loop
 shared-slice-read-if1 c = search needs
+
+cast-if1 : tie.Need-cast-if1 Inv-loop μ-loop
+cast-if1 c = omega (arith, c .shared-slice-known .given (c .before .before .loop .place - 1))
 
 returns : tie.Need-returns Inv-loop μ-loop
 returns c =
@@ -65,6 +68,7 @@ last-up-to-spec =
     sub-if1
     mul-if1
     shared-slice-read-if1
+    cast-if1
     returns
     sub-place
     loop-less

@@ -1,16 +1,19 @@
 -- `color::premultiply` meets its contract. Assumes nothing.
-use mathlib.Core.Path.{refl}
+use Prim.Native.Nat.{_≤_}
+use native.Mathlib.Nat.{mul-le-mul}
 use native.Mathlib.Omega.{arith}
 use borrow.Author.Needs.{needs}
-use Rattle.color.proofs.Arrays.{product-small}
 use Rattle.color.proofs.premultiply.Statement.{statement}
 use Rattle.color.proofs.premultiply.Tie as tie
 
 mul-result : tie.Need-mul-result
-mul-result c = let h = product-small (c .args .c) (c .args .a) (search needs) (search needs) in omega arith
+mul-result c =
+    let h : c .args .c ≤ 255 = search needs in
+    let k : c .args .a ≤ 255 = search needs in
+    omega (arith, mul-le-mul h k)
 
 returns : tie.Need-returns
-returns c = (refl, product-small (c .args .c) (c .args .a) (search needs) (search needs))
+returns c = search needs
 
 pub premultiply-spec : {M : Type 1} → statement M
 premultiply-spec = tie.close (tie.spec mul-result returns)

@@ -1,76 +1,76 @@
 -- `drawing::draw_placed` meets its contract. Assumes nothing.
-use mathlib.Core.Path.{_≡_, sym}
-use native.Mathlib.Omega.{arith}
-use lib.ListN.{length}
-use lib.Seq.{length-take-le}
+use mathlib.Core.Path.{refl, sym, ap, _∙_}
+use mathlib.Core.List.{map}
+use Prim.Native.Nat.{_-_, _*_}
+use denote.Ref.{now}
+use Rattle.line.specs.Represented.{ruleIn}
 use Rattle.stops.specs.Check.{placedOf}
-use Rattle.color.specs.Arrays.{Holds}
-use Rattle.color.proofs.Arrays.{placed-holds, all-bytes}
-use Rattle.drawing.proofs.Accepted.{painted-held}
+use Rattle.color.specs.Stop.{stopOf}
+use Rattle.picture.specs.Picture.{strip, patched}
+use Rattle.picture.proofs.Patches.{painted}
+use Rattle.picture.proofs.Rows.{strip-length}
+use Rattle.rows.specs.Pixel.{pixelOf}
+use Rattle.drawing.proofs.Accepted.{same-picture}
 use borrow.Author.Needs.{needs}
 use Rattle.drawing.proofs.draw_placed.Statement.{statement}
 use Rattle.drawing.proofs.draw_placed.Tie as tie
 
-abbrev stopsHeld : (c : tie.After-values-of)
-    → Holds (c .before .before .before .args .p .count) (placedOf (c .before .before .before .args .p)) (c .before .positions-of .result) (c .values-of .result)
-stopsHeld c =
-    let s = c .before .before .before in
-    placed-holds (s .args .p) _ _ (s .pre .1) (s .pre .2) (c .before .positions-of .ensures) (c .values-of .ensures)
+no-ramp-requires : tie.Need-no-ramp-requires
+no-ramp-requires c κs = search needs
 
-positions-of-requires : tie.Need-positions-of-requires
-positions-of-requires c κs = search needs
+slice-aggregate-set-stops : tie.Need-slice-aggregate-set-stops
+slice-aggregate-set-stops c = search needs
 
-values-of-requires : tie.Need-values-of-requires
-values-of-requires c κs = search needs
+set-stops-requires : tie.Need-set-stops-requires
+set-stops-requires c κs = search needs
 
-cast-n : tie.Need-cast-n
-cast-n c = search needs
+slice-aggregate-draw : tie.Need-slice-aggregate-draw
+slice-aggregate-draw c = search needs
 
-mul-m : tie.Need-mul-m
-mul-m c = search needs
+draw-requires : tie.Need-draw-requires
+draw-requires c κs = search needs
 
-array-share-prefix-positions : tie.Need-array-share-prefix-positions
-array-share-prefix-positions c = search needs
+mul-clear-from : tie.Need-mul-clear-from
+mul-clear-from c = search needs
 
-slice-aggregate-paint : tie.Need-slice-aggregate-paint
-slice-aggregate-paint c =
-    let full : length (c .before .before .before .positions-of .result) ≡ 16 = search needs in
-    sym (length-take-le _ _ (omega (arith, c .before .before .before .before .before .pre .1 .fit)))
+sub-clear-from : tie.Need-sub-clear-from
+sub-clear-from c = search needs
 
-array-share-prefix-values : tie.Need-array-share-prefix-values
-array-share-prefix-values c = search needs
+mul-clear-from-2 : tie.Need-mul-clear-from-2
+mul-clear-from-2 c = search needs
 
-slice-aggregate-paint-2 : tie.Need-slice-aggregate-paint-2
-slice-aggregate-paint-2 c =
-    let full : length (c .before .before .before .values-of .result) ≡ 64 = search needs in
-    sym (length-take-le _ _ (omega (arith, c .before .before .before .before .before .before .pre .1 .fit)))
-
-paint-requires : tie.Need-paint-requires
-paint-requires c κs =
-    let s = c .before .before .before .before .before .before .before in
-    (record { placed = s .pre .0; lent = stopsHeld (c .before .before .before .before) .lent }, s .pre .3)
+clear-from-requires : tie.Need-clear-from-requires
+clear-from-requires c κs = search needs
 
 same-length : tie.Need-same-length
 same-length c = search needs
 
 returns : tie.Need-returns
 returns c =
-    let v = c .before .before .before .before .before .before .before in
-    let a = v .before .before .before .args in
-    painted-held (a .l) (a .w) (a .h) (stopsHeld v) (all-bytes (placedOf (a .p)) (v .values-of .ensures .bytes)) (c .before .before .paint .ensures)
+    let s = c .before .before .before .before .before .before .before .before .before .before .before .before .before .before .before .before in
+    let a = s .args in
+    let m = c .before .before .before .before .before .before .before .before .before .before .before .before .set-stops .ensures in
+    let px = pixelOf (ruleIn (a .l) (a .z .w) (a .z .h)) (map stopOf (placedOf (a .p))) in
+    record {
+      left = c .before .before .clear-from .ensures
+          ∙ painted (now (a .buf)) (strip px (a .z .w) (a .z .a) (a .z .b)) _ (4 * a .z .w * (a .z .b - a .z .a))
+          (sym (strip-length px (λ i j. refl) (a .z .w) (a .z .a) (a .z .b))) (s .pre .3 .room)
+          (c .before .before .before .before .before .before .before .before .draw .ensures ∙ ap (patched (now (a .buf)) 0) (same-picture (placedOf (a .p)) _ m (a .l) (a .z)));
+      colors = m .bytes;
+    }
 
 pub draw-placed-spec : {M : Type 1} → statement M
 draw-placed-spec =
     tie.close
     (tie.spec
-    positions-of-requires
-    values-of-requires
-    cast-n
-    mul-m
-    array-share-prefix-positions
-    slice-aggregate-paint
-    array-share-prefix-values
-    slice-aggregate-paint-2
-    paint-requires
+    no-ramp-requires
+    slice-aggregate-set-stops
+    set-stops-requires
+    slice-aggregate-draw
+    draw-requires
+    mul-clear-from
+    sub-clear-from
+    mul-clear-from-2
+    clear-from-requires
     same-length
     returns)

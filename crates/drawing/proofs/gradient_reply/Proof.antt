@@ -1,6 +1,6 @@
 -- `drawing::gradient_reply` meets its contract. Assumes nothing.
 use mathlib.Core.Path.{sym, _∙_}
-use Rattle.gradient.proofs.Laws.{orElse-first, orElse-next}
+use Rattle.replies.proofs.Laws.{orElse-first, orElse-next}
 use borrow.Author.Needs.{needs}
 use Rattle.drawing.proofs.gradient_reply.Statement.{statement}
 use Rattle.drawing.proofs.gradient_reply.Tie as tie

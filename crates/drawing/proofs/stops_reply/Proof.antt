@@ -1,7 +1,7 @@
 -- `drawing::stops_reply` meets its contract. Assumes nothing.
 use mathlib.Core.Path.{sym, ap₂, _∙_}
-use Rattle.gradient.proofs.Laws.{orElse-first, orElse-next}
-use Rattle.drawing.specs.Replies.{lowest}
+use Rattle.replies.specs.Replies.{lowest}
+use Rattle.replies.proofs.Laws.{orElse-first, orElse-next}
 use borrow.Author.Needs.{needs}
 use Rattle.drawing.proofs.stops_reply.Statement.{statement}
 use Rattle.drawing.proofs.stops_reply.Tie as tie

@@ -2,7 +2,7 @@
 use mathlib.Core.Path.{_≡_, refl}
 use Prim.Native.Nat.{ℕ, _+_, _*_, _<_}
 use native.Mathlib.Omega.{arith}
-use Rattle.line.specs.Held.{oddOf}
+use Rattle.line.specs.Represented.{oddOf}
 use Rattle.fixed.proofs.Places.{row-fits, step-fits, goes-forth, goes-back}
 use borrow.Author.Needs.{needs}
 use Rattle.fixed.proofs.row_line.Statement.{statement}

@@ -2,8 +2,9 @@
 use mathlib.Core.Logic.{⊎-elim}
 use borrow.Author.Needs.{needs}
 use borrow.Author.Tests.{lt-ltb, le-ltb}
+use Rattle.replies.specs.Replies.{malformed, outOfRange}
+use Rattle.replies.proofs.Laws.{given-first, given-next}
 use Rattle.gradient.specs.Check.{checkOf}
-use Rattle.gradient.proofs.Laws.{given-first, given-next}
 use Rattle.gradient.proofs.check.Statement.{statement}
 use Rattle.gradient.proofs.check.Tie as tie
 
@@ -15,7 +16,7 @@ unfolding checkOf
 returns c =
     ⊎-elim
     (λ w. given-first _ (lt-ltb _ _ (w .taken)))
-    (λ w. given-next 4 (le-ltb _ _ (w .0 .left)) (given-first _ (rw (w .1 .ensures) at (w .2 .taken))))
+    (λ w. given-next malformed (le-ltb _ _ (w .0 .left)) (given-first _ (rw (w .1 .ensures) at (w .2 .taken))))
     (c .if1 .came)
 
 shape-in-requires : tie.Need-shape-in-requires
@@ -29,11 +30,11 @@ unfolding checkOf
 returns-2 c =
     let s = c .before in
     let b = s .before in
-    given-next 4 (le-ltb _ _ (b .before .before .if1 .left))
-    (given-next 4 (rw (b .before .blank-past .ensures) at (b .if2 .left))
+    given-next malformed (le-ltb _ _ (b .before .before .if1 .left))
+    (given-next malformed (rw (b .before .blank-past .ensures) at (b .if2 .left))
     (⊎-elim
     (λ w. given-first _ (rw (s .shape-in .ensures) at (w .taken)))
-    (λ w. given-next 5 (rw (s .shape-in .ensures) at (w .0 .left)) (given-first _ (rw (w .1 .ensures) at (w .2 .taken))))
+    (λ w. given-next outOfRange (rw (s .shape-in .ensures) at (w .0 .left)) (given-first _ (rw (w .1 .ensures) at (w .2 .taken))))
     (c .if3 .came)))
 
 returns-3 : tie.Need-returns-3
@@ -42,10 +43,10 @@ returns-3 c =
     let p = c .before .before in
     let s = p .before .before in
     let b = s .before .before in
-    given-next 4 (le-ltb _ _ (b .before .before .if1 .left))
-    (given-next 4 (rw (b .before .blank-past .ensures) at (b .if2 .left))
-    (given-next 5 (rw (s .before .shape-in .ensures) at (s .if3 .left))
-    (given-next 5 (rw (p .before .stops-in .ensures) at (p .if4 .left)) (rw (le-ltb 16 _ (c .if5 .taken))))))
+    given-next malformed (le-ltb _ _ (b .before .before .if1 .left))
+    (given-next malformed (rw (b .before .blank-past .ensures) at (b .if2 .left))
+    (given-next outOfRange (rw (s .before .shape-in .ensures) at (s .if3 .left))
+    (given-next outOfRange (rw (p .before .stops-in .ensures) at (p .if4 .left)) (rw (le-ltb 16 _ (c .if5 .taken))))))
 
 returns-4 : tie.Need-returns-4
 unfolding checkOf
@@ -53,10 +54,10 @@ returns-4 c =
     let p = c .before .before in
     let s = p .before .before in
     let b = s .before .before in
-    given-next 4 (le-ltb _ _ (b .before .before .if1 .left))
-    (given-next 4 (rw (b .before .blank-past .ensures) at (b .if2 .left))
-    (given-next 5 (rw (s .before .shape-in .ensures) at (s .if3 .left))
-    (given-next 5 (rw (p .before .stops-in .ensures) at (p .if4 .left)) (rw (lt-ltb 16 _ (c .if5 .left))))))
+    given-next malformed (le-ltb _ _ (b .before .before .if1 .left))
+    (given-next malformed (rw (b .before .blank-past .ensures) at (b .if2 .left))
+    (given-next outOfRange (rw (s .before .shape-in .ensures) at (s .if3 .left))
+    (given-next outOfRange (rw (p .before .stops-in .ensures) at (p .if4 .left)) (rw (lt-ltb 16 _ (c .if5 .left))))))
 
 pub check-spec : {M : Type 1} → statement M
 check-spec =

@@ -4,26 +4,26 @@ use Prim.Native.Nat.{ℕ, _+_, _-_, _/_, _%_}
 use native.Mathlib.Omega.{arith}
 use borrow.Author.Needs.{needs}
 use lib.IntN.{pos, negℤ, negℤ-negℤ}
-use Rattle.numbers.specs.Held.{held}
-use Rattle.numbers.proofs.Signed.{small-same, held-high}
+use Rattle.numbers.specs.Biased.{biased}
+use Rattle.numbers.proofs.Signed.{small-same, biased-high}
 use Rattle.sine.specs.Sines.{sineOf}
 use Rattle.line.specs.Vector.{vector, quarters}
 use Rattle.line.proofs.Vectors.{quarters-is, angle-in}
 use Rattle.line.proofs.angle_vector.Statement.{statement}
 use Rattle.line.proofs.angle_vector.Tie as tie
 
-is-held : (c : tie.After-hold) → c .hold .result ≡ held (c .before .args .a)
-is-held c = c .hold .ensures ∙ ap held (small-same (c .before .args .a) (c .before .pre))
+is-biased : (c : tie.After-biased) → c .biased .result ≡ biased (c .before .args .a)
+is-biased c = c .biased .ensures ∙ ap biased (small-same (c .before .args .a) (c .before .pre))
 
 -- what is left of the angle after whole turns, as the code finds it
-turned : (c : tie.After-hold) → quarters (c .before .args .a) ≡ (c .hold .result + 285568) % 360000 / 250
-turned c = quarters-is (c .before .args .a) (c .before .pre) ∙ ap (λ (n : ℕ). (n + 285568) % 360000 / 250) (sym (is-held c))
+turned : (c : tie.After-biased) → quarters (c .before .args .a) ≡ (c .biased .result + 285568) % 360000 / 250
+turned c = quarters-is (c .before .args .a) (c .before .pre) ∙ ap (λ (n : ℕ). (n + 285568) % 360000 / 250) (sym (is-biased c))
 
-hold-requires : tie.Need-hold-requires
-hold-requires c κs = search needs
+biased-requires : tie.Need-biased-requires
+biased-requires c κs = search needs
 
 add-q : tie.Need-add-q
-add-q c = omega (arith, is-held c, held-high (c .before .args .a) (c .before .pre))
+add-q c = omega (arith, is-biased c, biased-high (c .before .args .a) (c .before .pre))
 
 cast-r : tie.Need-cast-r
 cast-r c = search needs
@@ -40,14 +40,14 @@ sine-requires-2 c κs = search needs
 returns : tie.Need-returns
 returns c =
     let h = c .before .before .before in
-    let q : ℕ = (h .hold .result + 285568) % 360000 / 250 in
+    let q : ℕ = (h .biased .result + 285568) % 360000 / 250 in
     rw (c .before .before .sine .ensures, c .before .sine2 .ensures)
     (angle-in _ (h .before .args .a) q 0 1 (turned h) (c .match .keys1) (omega arith) refl refl refl)
 
 returns-2 : tie.Need-returns-2
 returns-2 c =
     let h = c .before .before .before in
-    let q : ℕ = (h .hold .result + 285568) % 360000 / 250 in
+    let q : ℕ = (h .biased .result + 285568) % 360000 / 250 in
     rw (c .before .before .sine .ensures, c .before .sine2 .ensures)
     (angle-in _ (h .before .args .a) q 1 2 (turned h) (c .match .keys2) (omega arith) refl (omega arith)
     (ap (vector (pos (sineOf (360 - q % 360)))) (sym (negℤ-negℤ (pos (sineOf (q % 360)))))))
@@ -55,7 +55,7 @@ returns-2 c =
 returns-3 : tie.Need-returns-3
 returns-3 c =
     let h = c .before .before .before in
-    let q : ℕ = (h .hold .result + 285568) % 360000 / 250 in
+    let q : ℕ = (h .biased .result + 285568) % 360000 / 250 in
     rw (c .before .before .sine .ensures, c .before .sine2 .ensures)
     (angle-in _ (h .before .args .a) q 2 3 (turned h) (c .match .keys3) (omega arith) refl refl
     (ap (vector (negℤ (pos (sineOf (q % 360))))) (sym (negℤ-negℤ (pos (sineOf (360 - q % 360)))))))
@@ -63,7 +63,7 @@ returns-3 c =
 returns-4 : tie.Need-returns-4
 returns-4 c =
     let h = c .before .before .before in
-    let q : ℕ = (h .hold .result + 285568) % 360000 / 250 in
+    let q : ℕ = (h .biased .result + 285568) % 360000 / 250 in
     rw (c .before .before .sine .ensures, c .before .sine2 .ensures)
     (angle-in _ (h .before .args .a) q 3 0 (turned h) (omega arith) (omega arith) refl (omega arith) refl)
 
@@ -71,7 +71,7 @@ pub angle-vector-spec : {M : Type 1} → statement M
 angle-vector-spec =
     tie.close
     (tie.spec
-    hold-requires
+    biased-requires
     add-q
     cast-r
     sine-requires

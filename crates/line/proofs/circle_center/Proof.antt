@@ -1,7 +1,7 @@
 -- `line::circle_center` meets its contract. Assumes nothing.
 use mathlib.Core.Path.{ap₂}
 use lib.IntN.{ℤ}
-use Rattle.line.proofs.Circles.{held-below}
+use Rattle.line.proofs.Circles.{biased-below}
 use Rattle.line.proofs.Bounds.{coordinate-le}
 use borrow.Author.Needs.{needs}
 use Rattle.line.proofs.circle_center.Statement.{statement}
@@ -21,8 +21,8 @@ returns c =
     record {
       is = ap₂ (λ (x y : ℤ). record { x = x; y = y }) p q;
       near = record {
-        x = held-below _ (rw p (coordinate-le (g .args .x) (g .args .w) (g .pre .1) (g .pre .0 .width)));
-        y = held-below _ (rw q (coordinate-le (g .args .y) (g .args .h) (g .pre .2) (g .pre .0 .height)));
+        x = biased-below _ (rw p (coordinate-le (g .args .x) (g .args .w) (g .pre .1) (g .pre .0 .width)));
+        y = biased-below _ (rw q (coordinate-le (g .args .y) (g .args .h) (g .pre .2) (g .pre .0 .height)));
       };
     }
 

@@ -3,18 +3,18 @@ use mathlib.Core.Path.{sym, ap, _∙_, subst}
 use Prim.Native.Nat.{_≤_}
 use native.Mathlib.Omega.{arith}
 use lib.IntN.{ℤ, natAbs}
-use Rattle.numbers.specs.Held.{offset}
+use Rattle.numbers.specs.Biased.{bias}
 use Rattle.numbers.proofs.Signed.{small-same}
 use Rattle.gradient.specs.Range.{directionIn}
 use Rattle.gradient.proofs.Laws.{angle-range}
 use Rattle.line.specs.Vector.{vectorOf, angleVector}
-use Rattle.line.specs.Held.{IsVector}
+use Rattle.line.specs.Represented.{IsVector}
 use borrow.Author.Needs.{needs}
 use Rattle.line.proofs.direction_vector.Statement.{statement}
 use Rattle.line.proofs.direction_vector.Tie as tie
 
--- an angle that is in range can be held
-small : (c : tie.After-known-told3) → natAbs (c .before .d3 .given .0 .0) ≤ offset
+-- an angle that is in range can be biased
+small : (c : tie.After-known-told3) → natAbs (c .before .d3 .given .0 .0) ≤ bias
 small c = omega (arith, angle-range (c .before .d3 .given .0 .0) (sym (ap directionIn (c .before .d3 .given .1)) ∙ c .before .before .before .pre .1) .0)
 
 enum-known-d : tie.Need-enum-known-d

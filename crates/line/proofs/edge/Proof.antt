@@ -1,6 +1,6 @@
 -- `line::edge` meets its contract. Assumes nothing.
 use mathlib.Core.Path.{ap₂, _∙_}
-use Rattle.line.specs.Held.{chosen}
+use Rattle.line.specs.Represented.{chosen}
 use Rattle.line.proofs.Circles.{chosen-below}
 use borrow.Author.Needs.{needs}
 use Rattle.line.proofs.edge.Statement.{statement}

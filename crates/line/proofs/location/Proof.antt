@@ -1,7 +1,7 @@
 -- `line::location` meets its contract. Assumes nothing.
 use mathlib.Core.Path.{subst}
 use native.Mathlib.Omega.{arith}
-use Rattle.line.specs.Held.{Sound}
+use Rattle.line.specs.Represented.{Sound}
 use borrow.Author.Needs.{needs}
 use Rattle.line.proofs.location.Statement.{statement}
 use Rattle.line.proofs.location.Tie as tie

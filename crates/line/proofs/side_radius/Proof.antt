@@ -1,6 +1,6 @@
 -- `line::side_radius` meets its contract. Assumes nothing.
 use mathlib.Core.Path.{ap₂, _∙_}
-use Rattle.line.specs.Held.{chosen}
+use Rattle.line.specs.Represented.{chosen}
 use borrow.Author.Needs.{needs}
 use Rattle.line.proofs.side_radius.Statement.{statement}
 use Rattle.line.proofs.side_radius.Tie as tie

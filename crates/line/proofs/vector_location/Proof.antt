@@ -2,7 +2,7 @@
 use Prim.Native.Nat.{_*_, _<_}
 use native.Mathlib.Omega.{arith}
 use Rattle.line.specs.Location.{locationBy}
-use Rattle.line.specs.Held.{oddOf}
+use Rattle.line.specs.Represented.{oddOf}
 use Rattle.line.proofs.Lines.{square-is, odd-below, weighted-le}
 use borrow.Author.Needs.{needs}
 use Rattle.line.proofs.vector_location.Statement.{statement}

@@ -2,7 +2,7 @@
 use mathlib.Core.Path.{_≡_, ap, _∙_}
 use Prim.Native.Nat.{ℕ, _+_, _*_}
 use native.Mathlib.Omega.{arith}
-use Rattle.numbers.specs.Held.{held}
+use Rattle.numbers.specs.Biased.{biased}
 use Rattle.numbers.specs.Units.{rounded}
 use Rattle.numbers.proofs.Signed.{small-same}
 use Rattle.numbers.proofs.Units.{length-high, length-is}
@@ -10,14 +10,14 @@ use borrow.Author.Needs.{needs}
 use Rattle.numbers.proofs.length_units.Statement.{statement}
 use Rattle.numbers.proofs.length_units.Tie as tie
 
-is-held : (c : tie.After-hold) → c .hold .result ≡ held (c .before .args .t)
-is-held c = c .hold .ensures ∙ ap held (small-same (c .before .args .t) (omega (arith, c .before .pre)))
+is-biased : (c : tie.After-biased) → c .biased .result ≡ biased (c .before .args .t)
+is-biased c = c .biased .ensures ∙ ap biased (small-same (c .before .args .t) (omega (arith, c .before .pre)))
 
-is-rounded : (c : tie.After-round) → c .round .result ≡ rounded (held (c .before .before .args .t) * 64 + 352) 1000
-is-rounded c = c .round .ensures ∙ ap (λ (n : ℕ). rounded (n * 64 + 352) 1000) (is-held (c .before))
+is-rounded : (c : tie.After-round) → c .round .result ≡ rounded (biased (c .before .before .args .t) * 64 + 352) 1000
+is-rounded c = c .round .ensures ∙ ap (λ (n : ℕ). rounded (n * 64 + 352) 1000) (is-biased (c .before))
 
-hold-requires : tie.Need-hold-requires
-hold-requires c κs = rw (small-same (c .args .t) (omega arith)) (omega arith)
+biased-requires : tie.Need-biased-requires
+biased-requires c κs = rw (small-same (c .args .t) (omega arith)) (omega arith)
 
 cast-round : tie.Need-cast-round
 cast-round c = search needs
@@ -44,7 +44,7 @@ pub length-units-spec : {M : Type 1} → statement M
 length-units-spec =
     tie.close
     (tie.spec
-    hold-requires
+    biased-requires
     cast-round
     mul-round
     add-round

@@ -2,7 +2,7 @@
 use mathlib.Core.Path.{_≡_, ap, _∙_}
 use Prim.Native.Nat.{ℕ, _+_, _*_, _≤_}
 use native.Mathlib.Omega.{arith}
-use Rattle.numbers.specs.Held.{held}
+use Rattle.numbers.specs.Biased.{biased}
 use Rattle.numbers.specs.Units.{rounded}
 use Rattle.numbers.proofs.Signed.{small-same}
 use Rattle.numbers.proofs.Units.{percentage-product, percentage-range, percentage-is}
@@ -10,17 +10,17 @@ use borrow.Author.Needs.{needs}
 use Rattle.numbers.proofs.percentage_units.Statement.{statement}
 use Rattle.numbers.proofs.percentage_units.Tie as tie
 
-is-held : (c : tie.After-hold) → c .hold .result ≡ held (c .before .args .p)
-is-held c = c .hold .ensures ∙ ap held (small-same (c .before .args .p) (omega (arith, c .before .pre .0)))
+is-biased : (c : tie.After-biased) → c .biased .result ≡ biased (c .before .args .p)
+is-biased c = c .biased .ensures ∙ ap biased (small-same (c .before .args .p) (omega (arith, c .before .pre .0)))
 
-range : (c : tie.After-round) → (326 * c .before .before .args .whole ≤ rounded ((held (c .before .before .args .p) + 45568) * c .before .before .args .whole) 100000) × (rounded ((held (c .before .before .args .p) + 45568) * c .before .before .args .whole) 100000 ≤ 346 * c .before .before .args .whole)
+range : (c : tie.After-round) → (326 * c .before .before .args .whole ≤ rounded ((biased (c .before .before .args .p) + 45568) * c .before .before .args .whole) 100000) × (rounded ((biased (c .before .before .args .p) + 45568) * c .before .before .args .whole) 100000 ≤ 346 * c .before .before .args .whole)
 range c = percentage-range (c .before .before .args .p) (c .before .before .args .whole) (c .before .before .pre .0)
 
-is-rounded : (c : tie.After-round) → c .round .result ≡ rounded ((held (c .before .before .args .p) + 45568) * c .before .before .args .whole) 100000
-is-rounded c = c .round .ensures ∙ ap (λ (n : ℕ). rounded ((n + 45568) * c .before .before .args .whole) 100000) (is-held (c .before))
+is-rounded : (c : tie.After-round) → c .round .result ≡ rounded ((biased (c .before .before .args .p) + 45568) * c .before .before .args .whole) 100000
+is-rounded c = c .round .ensures ∙ ap (λ (n : ℕ). rounded ((n + 45568) * c .before .before .args .whole) 100000) (is-biased (c .before))
 
-hold-requires : tie.Need-hold-requires
-hold-requires c κs = rw (small-same (c .args .p) (omega arith)) (omega arith)
+biased-requires : tie.Need-biased-requires
+biased-requires c κs = rw (small-same (c .args .p) (omega arith)) (omega arith)
 
 cast-round : tie.Need-cast-round
 cast-round c = search needs
@@ -29,10 +29,10 @@ add-round : tie.Need-add-round
 add-round c = search needs
 
 mul-round : tie.Need-mul-round
-mul-round c = rw (is-held c) (omega (arith, percentage-product (c .before .args .p) (c .before .args .whole) (c .before .pre .0)))
+mul-round c = rw (is-biased c) (omega (arith, percentage-product (c .before .args .p) (c .before .args .whole) (c .before .pre .0)))
 
 round-requires : tie.Need-round-requires
-round-requires c κs = rw (is-held c) (let r = percentage-product (c .before .args .p) (c .before .args .whole) (c .before .pre .0) in (omega arith, omega arith, omega arith))
+round-requires c κs = rw (is-biased c) (let r = percentage-product (c .before .args .p) (c .before .args .whole) (c .before .pre .0) in (omega arith, omega arith, omega arith))
 
 add-result : tie.Need-add-result
 add-result c = omega (arith, is-rounded c, range c)
@@ -53,7 +53,7 @@ pub percentage-units-spec : {M : Type 1} → statement M
 percentage-units-spec =
     tie.close
     (tie.spec
-    hold-requires
+    biased-requires
     cast-round
     add-round
     mul-round

@@ -4,7 +4,7 @@ use mathlib.Core.List.{map}
 use native.Mathlib.Omega.{arith}
 use lib.IntN.{pos}
 use borrow.Author.Needs.{needs}
-use Rattle.placing.specs.Held.{spot, Ready}
+use Rattle.placing.specs.Represented.{spot, Ready}
 use Rattle.placing.specs.Fixup.{raised, spaced}
 use Rattle.placing.proofs.Above.{ready}
 use Rattle.placing.proofs.fix_up.Statement.{statement}

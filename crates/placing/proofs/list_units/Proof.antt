@@ -9,7 +9,7 @@ use borrow.Author.Needs.{needs}
 use Rattle.gradient.specs.Blank.{blankStop}
 use Rattle.placing.specs.Spot.{spotOf}
 use Rattle.placing.specs.Placed.{spotsOf}
-use Rattle.placing.specs.Held.{spot}
+use Rattle.placing.specs.Represented.{spot}
 use Rattle.placing.proofs.Scan.{map-more}
 use Rattle.placing.proofs.list_units.Statement.{statement}
 use Rattle.placing.proofs.list_units.Tie as tie

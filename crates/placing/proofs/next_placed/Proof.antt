@@ -7,7 +7,7 @@ use native.Mathlib.Omega.{arith}
 use lib.ListN.{length, drop, getD}
 use borrow.Author.Needs.{needs}
 use Rattle.placing.specs.Fixup.{next, run}
-use Rattle.placing.specs.Held.{spot}
+use Rattle.placing.specs.Represented.{spot}
 use Rattle.placing.proofs.Steps.{next-on, run-on, next-here, run-here, next-none, run-none}
 use Rattle.placing.proofs.next_placed.Statement.{statement}
 use Rattle.placing.proofs.next_placed.Tie as tie

@@ -5,7 +5,7 @@ use lib.IntN.{ℤ}
 use borrow.Author.Needs.{needs}
 use Rattle.gradient.specs.Check.{stopsOf}
 use Rattle.placing.specs.Placed.{atPositions, listed}
-use Rattle.placing.proofs.Laws.{placed-at-positions, held-within}
+use Rattle.placing.proofs.Laws.{placed-at-positions, biased-within}
 use Rattle.placing.proofs.place_in_box.Statement.{statement}
 use Rattle.placing.proofs.place_in_box.Tie as tie
 
@@ -18,7 +18,7 @@ positions-in-box-requires c κs = search needs
 attach-requires : tie.Need-attach-requires
 attach-requires c κs =
     let a = c .before .before .before in
-    (a .pre .1 .fit, held-within (a .args .g) (a .args .w) (a .args .h) (a .pre .0) (a .pre .1) (c .positions-in-box .result) (c .positions-in-box .ensures))
+    (a .pre .1 .fit, biased-within (a .args .g) (a .args .w) (a .args .h) (a .pre .0) (a .pre .1) (c .positions-in-box .result) (c .positions-in-box .ensures))
 
 returns : tie.Need-returns
 returns c =

@@ -6,7 +6,7 @@ use native.Mathlib.Omega.{arith}
 use lib.ListN.{length, drop}
 use lib.Seq.{length-take-le, take-at}
 use borrow.Author.Needs.{needs}
-use Rattle.numbers.specs.Held.{unheld}
+use Rattle.numbers.specs.Biased.{unbiased}
 use Rattle.gradient.specs.Check.{stopsOf}
 use Rattle.line.specs.Bounds.{longest}
 use Rattle.line.proofs.Bounds.{bounds}
@@ -53,7 +53,7 @@ returns c =
     let l = u .before .before .before in
     let a = l .before .args in
     let g = a .g in
-    ap (map unheld) (take-at (f .fix-up .last .0) (drop (g .count) (u .list-units .result)) (g .count) (f .fix-up .kept .0 ∙ sym (slice-aggregate-fix-up (f .before))))
+    ap (map unbiased) (take-at (f .fix-up .last .0) (drop (g .count) (u .list-units .result)) (g .count) (f .fix-up .kept .0 ∙ sym (slice-aggregate-fix-up (f .before))))
     ∙ f .fix-up .ensures
     ∙ ap (fixup (l .line-length .result)) (u .list-units .ensures)
     ∙ ap (λ (n : ℕ). fixup n (spotsOf n (stopsOf g))) (l .line-length .ensures)

@@ -7,7 +7,7 @@ use native.Mathlib.Omega.{arith}
 use lib.ListN.{length, drop, take, getD, length-set}
 use borrow.Author.Needs.{needs}
 use Rattle.placing.specs.Fixup.{raised, raisedFrom}
-use Rattle.placing.specs.Held.{spot}
+use Rattle.placing.specs.Represented.{spot}
 use Rattle.placing.proofs.Scan.{in-place, all-done, map-at}
 use Rattle.placing.proofs.Steps.{raise-step, raised-nil}
 use Rattle.placing.proofs.raise_stops.Statement.{statement}

@@ -5,15 +5,15 @@ use native.Mathlib.Nat.{add-zero, add-assoc}
 use native.Mathlib.Omega.{arith}
 use lib.ListN.{length, drop, length-set, length-drop}
 use borrow.Author.Needs.{needs}
-use Rattle.numbers.specs.Held.{unheld}
-use Rattle.placing.specs.Held.{spacedSoFar, Spacing}
+use Rattle.numbers.specs.Biased.{unbiased}
+use Rattle.placing.specs.Represented.{spacedSoFar, Spacing}
 use Rattle.placing.proofs.Steps.{run-bound, run-inside, not-above, run-step}
 use Rattle.placing.proofs.space_run.Statement.{statement}
 use Rattle.placing.proofs.space_run.Tie as tie
 
 abbrev Inv-loop : tie.InvT-loop
 Inv-loop ps₀ from n a b j₀ ps j =
-    (j ≤ n) × (length ps ≡ length ps₀) × Spacing (spacedSoFar (unheld a) 1 from ps₀) a b (j + 1) (n + 1) (from + j) ps
+    (j ≤ n) × (length ps ≡ length ps₀) × Spacing (spacedSoFar (unbiased a) 1 from ps₀) a b (j + 1) (n + 1) (from + j) ps
 
 abbrev μ-loop : tie.MeasureT-loop
 μ-loop ps₀ from n a b j₀ ps j = n - j
@@ -70,7 +70,7 @@ returns c =
     let a = c .before .before .before .args in
     let l = c .before .loop in
     let e : l .j ≡ a .n = omega arith in
-    subst (λ (j : ℕ). Spacing (spacedSoFar (unheld (a .a)) 1 (a .from) (a .ps .now)) (a .a) (a .b) (j + 1) (a .n + 1) (a .from + j) (l .ps)) e (l .inv .2)
+    subst (λ (j : ℕ). Spacing (spacedSoFar (unbiased (a .a)) 1 (a .from) (a .ps .now)) (a .a) (a .b) (j + 1) (a .n + 1) (a .from + j) (l .ps)) e (l .inv .2)
 
 pub space-run-spec : {M : Type 1} → statement M
 space-run-spec =

@@ -7,9 +7,9 @@ use native.Mathlib.Nat.{add-assoc}
 use native.Mathlib.Omega.{arith}
 use lib.ListN.{length, drop, length-drop}
 use borrow.Author.Needs.{needs}
-use Rattle.numbers.specs.Held.{unheld}
+use Rattle.numbers.specs.Biased.{unbiased}
 use Rattle.placing.specs.Fixup.{spaced, spacedFrom}
-use Rattle.placing.specs.Held.{spot, Ready, spacedSoFar}
+use Rattle.placing.specs.Represented.{spot, Ready, spacedSoFar}
 use Rattle.placing.proofs.Scan.{all-done}
 use Rattle.placing.proofs.Steps.{run-bound, spaced-nil, spaced-past, ready-past}
 use Rattle.placing.proofs.space_stops.Statement.{statement}
@@ -17,7 +17,7 @@ use Rattle.placing.proofs.space_stops.Tie as tie
 
 abbrev Inv-loop : tie.InvT-loop
 Inv-loop ps₀ a₀ i₀ ps a i =
-    (length ps ≡ length ps₀) × Ready (unheld a) (map spot (drop i ps)) × (spacedSoFar (unheld a) 1 i ps ≡ spaced (map spot ps₀))
+    (length ps ≡ length ps₀) × Ready (unbiased a) (map spot (drop i ps)) × (spacedSoFar (unbiased a) 1 i ps ≡ spaced (map spot ps₀))
 
 abbrev μ-loop : tie.MeasureT-loop
 μ-loop ps₀ a₀ i₀ ps a i = length ps - i
@@ -66,7 +66,7 @@ same-length c = search needs
 returns : tie.Need-returns Inv-loop μ-loop
 returns c =
     let l = c .before .loop in
-    sym (all-done unheld spot (l .ps) (l .i) (spacedFrom (unheld (l .a)) 1) (spaced-nil (unheld (l .a)) 1) (c .loop-test .left)) ∙ l .inv .2
+    sym (all-done unbiased spot (l .ps) (l .i) (spacedFrom (unbiased (l .a)) 1) (spaced-nil (unbiased (l .a)) 1) (c .loop-test .left)) ∙ l .inv .2
 
 pub space-stops-spec : {M : Type 1} → statement M
 space-stops-spec =

@@ -3,7 +3,7 @@ use mathlib.Core.Path.{ap, _∙_}
 use Rattle.text.proofs.Laws.{seen}
 use Rattle.tokens.specs.Number.{cut}
 use Rattle.reader.specs.View.{drafted}
-use Rattle.heads.specs.View.{viewDirection}
+use Rattle.directions.specs.View.{viewDirection}
 use Rattle.reader.proofs.Items.{linear-got, linear-none}
 use borrow.Author.Needs.{needs}
 use Rattle.reader.proofs.read_linear.Statement.{statement}

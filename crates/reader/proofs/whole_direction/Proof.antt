@@ -1,6 +1,6 @@
 -- `reader::whole_direction` meets its contract. Assumes nothing.
 use Rattle.text.proofs.Laws.{seen}
-use Rattle.heads.specs.View.{viewDirection}
+use Rattle.directions.specs.View.{viewDirection}
 use Rattle.text.proofs.Whole.{whole-refused, whole-more, whole-taken}
 use borrow.Author.Needs.{needs}
 use Rattle.reader.proofs.whole_direction.Statement.{statement}

@@ -10,17 +10,17 @@ use lib.ListN.{length}
 use Rattle.picture.specs.Picture.{row, strip, patched}
 use Rattle.picture.proofs.Rows.{strip-none, times-more, times-room}
 use Rattle.picture.proofs.Patches.{patch-none}
-use Rattle.rows.specs.Pixel.{lentPixel}
+use Rattle.rows.specs.Pixel.{rampPixel}
 use borrow.Author.Needs.{needs}
 use Rattle.rows.proofs.draw_each.Statement.{statement}
 use Rattle.rows.proofs.draw_each.Tie as tie
 
 abbrev Inv-loop : tie.InvT-loop
-Inv-loop positions values l w h a b buf₀ n j₀ o₀ buf j o =
-    (buf ≡ patched buf₀ 0 (strip (lentPixel positions values l w h) w a j)) × (o ≡ 4 * w * (j - a)) × (a ≤ j) × (j ≤ b) × (length buf ≡ length buf₀)
+Inv-loop ramp l z buf₀ n j₀ o₀ buf j o =
+    (buf ≡ patched buf₀ 0 (strip (rampPixel ramp l (z .w) (z .h)) (z .w) (z .a) j)) × (o ≡ 4 * z .w * (j - z .a)) × (z .a ≤ j) × (j ≤ z .b) × (length buf ≡ length buf₀)
 
 abbrev μ-loop : tie.MeasureT-loop
-μ-loop positions values l w h a b buf₀ n j₀ o₀ buf j o = b - j
+μ-loop ramp l z buf₀ n j₀ o₀ buf j o = z .b - j
 
 mul-n : tie.Need-mul-n Inv-loop μ-loop
 mul-n c = search needs
@@ -28,19 +28,19 @@ mul-n c = search needs
 loop-holds : tie.Need-loop-holds Inv-loop μ-loop
 loop-holds c =
     let s = c .before .before .before in
-    (rw strip-none (patch-none (now (s .args .buf)) 0), rw (sub-self, mul-zero), omega arith, omega (arith, s .pre .1 .some), refl)
+    (rw strip-none (patch-none (now (s .args .buf)) 0), rw (sub-self, mul-zero), omega arith, omega (arith, s .pre .rows .some), refl)
 
 draw-row-requires : tie.Need-draw-row-requires Inv-loop μ-loop
 draw-row-requires c κs =
-    let s = c .before .before .before .before .before .before in
-    let l = c .before .before .loop in
-    (s .pre .0, omega (arith, s .pre .1 .within), omega (arith, s .pre .1 .room, times-room (4 * s .args .w) (s .args .a) (s .args .b) (l .j) (l .inv .2) (omega arith)))
+    let s = c .before .before .before .before .before .before .before in
+    let l = c .before .before .before .loop in
+    (s .pre .stops, s .pre .placed, omega (arith, s .pre .rows .within), omega (arith, s .pre .rows .room, times-room (4 * s .args .z .w) (s .args .z .a) (s .args .z .b) (l .j) (l .inv .2) (omega arith)))
 
 add-o : tie.Need-add-o Inv-loop μ-loop
 add-o c =
-    let s = c .before .before .before .before .before .before .before .before .before in
-    let l = c .before .before .before .before .before .loop in
-    omega (arith, s .pre .1 .room, times-room (4 * s .args .w) (s .args .a) (s .args .b) (l .j) (l .inv .2) (omega arith))
+    let s = c .before .before .before .before .before .before .before .before .before .before in
+    let l = c .before .before .before .before .before .before .loop in
+    omega (arith, s .pre .rows .room, times-room (4 * s .args .z .w) (s .args .z .a) (s .args .z .b) (l .j) (l .inv .2) (omega arith))
 
 add-j : tie.Need-add-j Inv-loop μ-loop
 add-j c = omega arith
@@ -50,24 +50,24 @@ loop-less c = omega arith
 
 loop-again : tie.Need-loop-again Inv-loop μ-loop
 loop-again c =
-    let a = c .before .before .before .before .before .before .before .before .before .args in
-    let l = c .before .before .before .before .before .loop in
-    let px : (ℕ → ℕ → List ℕ) = lentPixel (a .positions .now) (a .values .now) (a .l) (a .w) (a .h) in (
-      rows-turn px (four (a .positions .now) (a .values .now) (a .l) (a .w) (a .h)) (a .w) (a .a) (a .b) (l .j) (l .o) (now (a .buf)) (l .buf) _ (row px (a .w) (l .j))
-          (l .inv .2) (omega arith) (l .inv .1) (c .before .before .before .before .before .before .before .before .before .pre .1 .room) (l .inv .0) refl (c .before .before .draw-row .ensures),
-      omega (arith, times-more (4 * a .w) (a .a) (l .j) (l .inv .2)),
+    let a = c .before .before .before .before .before .before .before .before .before .before .args in
+    let l = c .before .before .before .before .before .before .loop in
+    let px : (ℕ → ℕ → List ℕ) = rampPixel (now (a .ramp)) (a .l) (a .z .w) (a .z .h) in (
+      rows-turn px (four (now (a .ramp)) (a .l) (a .z .w) (a .z .h)) (a .z .w) (a .z .a) (a .z .b) (l .j) (l .o) (now (a .buf)) (l .buf) _ (row px (a .z .w) (l .j))
+          (l .inv .2) (omega arith) (l .inv .1) (c .before .before .before .before .before .before .before .before .before .before .pre .rows .room) (l .inv .0) refl (c .before .before .draw-row .ensures),
+      omega (arith, times-more (4 * a .z .w) (a .z .a) (l .j) (l .inv .2)),
       omega arith,
       omega arith,
       omega arith,
     )
 
 same-length : tie.Need-same-length Inv-loop μ-loop
-same-length c = c .before .loop .inv .4
+same-length c = c .before .before .loop .inv .4
 
 returns : tie.Need-returns Inv-loop μ-loop
 returns c =
-    let e : c .before .loop .j ≡ c .before .before .before .before .before .args .b = omega arith in
-    rw e at (c .before .loop .inv .0)
+    let e : c .before .before .loop .j ≡ c .before .before .before .before .before .before .args .z .b = omega arith in
+    rw e at (c .before .before .loop .inv .0)
 
 pub draw-each-spec : {M : Type 1} → statement M
 draw-each-spec =

@@ -11,7 +11,7 @@ use Rattle.gradient.specs.declared.Position.the-variants as P
 use Rattle.tokens.specs.Number.{cut}
 use Rattle.tokens.specs.Color.{colorOf}
 use Rattle.tokens.specs.View.{viewColor}
-use Rattle.stoplist.specs.Stops.{stop, positionOf, stopOf}
+use Rattle.stoplist.specs.Stops.{stop, stopPositionOf, stopOf}
 use Rattle.stoplist.specs.View.{viewPosition}
 use Rattle.stoplist.proofs.read_stop.Statement.{statement}
 use Rattle.stoplist.proofs.read_stop.Tie as tie
@@ -22,11 +22,11 @@ module _ (l : List ℕ) where
   no-color h = rw (← h)
 
   module _ {v : Color} {k : List ℕ} (h : got v k ≡ colorOf l) where
-    placed : {p : Position} {e : List ℕ} → got p e ≡ afterGap (positionOf cut) k → got (stop v p) e ≡ stopOf cut l
+    placed : {p : Position} {e : List ℕ} → got p e ≡ afterGap (stopPositionOf cut) k → got (stop v p) e ≡ stopOf cut l
     unfolding stopOf
     placed q = rw (← h, ← q)
 
-    bare : refused ≡ afterGap (positionOf cut) k → got (stop v P.Auto) k ≡ stopOf cut l
+    bare : refused ≡ afterGap (stopPositionOf cut) k → got (stop v P.Auto) k ≡ stopOf cut l
     unfolding stopOf
     bare q = rw (← h, ← q)
 

@@ -37,6 +37,9 @@ mul-color-of c = omega (arith, inside c)
 add-color-of : tie.Need-add-color-of Inv-loop μ-loop
 add-color-of c = omega (arith, inside c)
 
+cast-color-of-2 : tie.Need-cast-color-of-2 Inv-loop μ-loop
+cast-color-of-2 c = omega (arith, inside c)
+
 color-of-requires : tie.Need-color-of-requires Inv-loop μ-loop
 color-of-requires c κs =
     let s = c .before .before .before .before .before in
@@ -78,6 +81,7 @@ fill-each-spec =
     cast-color-of
     mul-color-of
     add-color-of
+    cast-color-of-2
     color-of-requires
     mul-t
     slice-write-t

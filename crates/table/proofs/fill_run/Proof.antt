@@ -26,6 +26,9 @@ mul-s c = omega (arith, low (c .before .before .before))
 add-s : tie.Need-add-s
 add-s c = omega (arith, low (c .before .before .before))
 
+cast-s-2 : tie.Need-cast-s-2
+cast-s-2 c = omega (arith, low (c .before .before .before))
+
 color-of-requires : tie.Need-color-of-requires
 color-of-requires c κs = (c .before .before .before .before .before .pre .0, omega (arith, low (c .before .before .before .before .before)))
 
@@ -90,6 +93,7 @@ fill-run-spec =
     cast-s
     mul-s
     add-s
+    cast-s-2
     color-of-requires
     fill-flat-requires
     same-length

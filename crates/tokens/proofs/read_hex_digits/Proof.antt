@@ -1,29 +1,23 @@
--- `tokens::read_hex_digits` meets its contract. The invariant says of any list that begins with the digits passed before the loop how many digits of
--- it are passed now and what they write. The measure is the length of the rest. Assumes nothing.
+-- `tokens::read_hex_digits` meets its contract. The invariant says how many digits were passed and what they write. The measure is the length
+-- of the rest. Assumes nothing.
 use mathlib.Core.Path.{ap, _∙_}
-use mathlib.Core.List.{List}
-use Prim.Native.Nat.{ℕ}
 use native.Mathlib.Omega.{arith}
 use borrow.Author.Needs.{needs}
 use lib.ListN.{length, drop, length-drop}
 use Rattle.text.proofs.Laws.{tested, rest-less, passed-below, passed-count, passed-rest}
 use Rattle.tokens.specs.Color.{isHex}
-use Rattle.tokens.proofs.Hex.{hex-end, Written, written-more}
-use Rattle.tokens.proofs.FirstDigits.{written-some}
+use Rattle.tokens.proofs.Hex.{hex-end, Written, written-none, written-more}
 use Rattle.tokens.proofs.read_hex_digits.Statement.{statement}
 use Rattle.tokens.proofs.read_hex_digits.Tie as tie
 
 abbrev Inv-loop : tie.InvT-loop
-Inv-loop s k₀ value₀ count₀ k value count = (l : List ℕ) → Written l (drop (k₀ .at) s) value₀ count₀ → Written l (drop (k .at) s) value count
+Inv-loop s k₀ value₀ count₀ k value count = Written (drop (k₀ .at) s) (drop (k .at) s) value count
 
 abbrev μ-loop : tie.MeasureT-loop
 μ-loop s k₀ value₀ count₀ k value count = length (drop (k .at) s)
 
-first-digits-requires : tie.Need-first-digits-requires Inv-loop μ-loop
-first-digits-requires c κs = search needs
-
 loop-holds : tie.Need-loop-holds Inv-loop μ-loop
-loop-holds c = λ l w. w
+loop-holds c = written-none _
 
 peek-requires : tie.Need-peek-requires Inv-loop μ-loop
 peek-requires c κs = search needs
@@ -41,9 +35,9 @@ shift-hex-requires c κs =
 
 add-count : tie.Need-add-count Inv-loop μ-loop
 add-count c =
-    let start = c .before .before .before .before .before .before .before .before .before in
+    let start = c .before .before .before .before .before .before .before in
     let going = tested isHex (c .before .before .before .before .peek .ensures) (c .before .before .before .is-hex .ensures) (c .before .before .if1 .taken) in
-    let inv = c .before .before .before .before .before .loop .inv _ (written-some (c .before .before .before .before .before .before .before .first-digits .ensures)) in
+    let inv = c .before .before .before .before .before .loop .inv in
     omega (arith, passed-below isHex hex-end _ _ _ (inv .passed) going, length-drop (start .args .c .at) (start .args .s .now), start .good)
 
 step-requires : tie.Need-step-requires Inv-loop μ-loop
@@ -58,12 +52,12 @@ loop-again : tie.Need-loop-again Inv-loop μ-loop
 loop-again c =
     let going = tested isHex (c .before .before .before .before .before .peek .ensures) (c .before .before .before .before .is-hex .ensures) (c .before .before .before .if1 .taken) in
     let inv = c .before .before .before .before .before .before .loop .inv in
-    λ l w. rw (c .step .ensures, c .before .shift-hex .ensures, c .before .before .peek2 .ensures) (written-more _ _ _ _ (inv l w) going)
+    rw (c .step .ensures, c .before .shift-hex .ensures, c .before .before .peek2 .ensures) (written-more _ _ _ _ inv going)
 
 returns : tie.Need-returns Inv-loop μ-loop
 returns c =
     let over = tested isHex (c .before .before .peek .ensures) (c .before .is-hex .ensures) (c .if1 .left) in
-    let inv = c .before .before .before .loop .inv _ (written-some (c .before .before .before .before .before .first-digits .ensures)) in
+    let inv = c .before .before .before .loop .inv in
     record {
       value = inv .number;
       count = passed-count isHex hex-end _ _ _ (inv .passed) over;
@@ -76,7 +70,6 @@ read-hex-digits-spec =
     (tie.spec
     Inv-loop
     μ-loop
-    first-digits-requires
     loop-holds
     peek-requires
     is-hex-requires

@@ -3,7 +3,7 @@ use mathlib.Core.Path.{_≡_}
 use Prim.Native.Nat.{ℕ, _/_}
 use native.Mathlib.Omega.{arith}
 use borrow.Author.Needs.{needs}
-use Rattle.walk.specs.Walk.{scale}
+use Rattle.color.specs.Lent.{scale}
 use Rattle.walk.specs.Channels.{walkOf}
 use Rattle.walk.proofs.Four.{every}
 use Rattle.walk.proofs.alike.Statement.{statement}

@@ -4,7 +4,8 @@ use Prim.Native.Nat.{ℕ, _*_, _/_, _≤_}
 use native.Mathlib.Nat.{mul-le-mul-right}
 use native.Mathlib.Omega.{arith}
 use borrow.Author.Needs.{needs}
-use Rattle.walk.specs.Walk.{scale, numeratorAt}
+use Rattle.color.specs.Lent.{scale}
+use Rattle.walk.specs.Walk.{numeratorAt}
 use Rattle.walk.proofs.Walks.{top, scaled-lt, share, begin-is}
 use Rattle.walk.proofs.begin.Statement.{statement}
 use Rattle.walk.proofs.begin.Tie as tie

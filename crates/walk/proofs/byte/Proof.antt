@@ -3,7 +3,7 @@ use mathlib.Core.Path.{_≡_, _∙_}
 use Prim.Native.Nat.{_+_, _/_, _%_}
 use native.Mathlib.Omega.{arith}
 use borrow.Author.Needs.{needs}
-use Rattle.walk.specs.Walk.{scale}
+use Rattle.color.specs.Lent.{scale}
 use Rattle.walk.proofs.Walks.{walk-byte, walk-small}
 use Rattle.walk.proofs.byte.Statement.{statement}
 use Rattle.walk.proofs.byte.Tie as tie

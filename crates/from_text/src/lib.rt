@@ -1,0 +1,51 @@
+// From text to stops and to pixels.
+use placing::Placing;
+use replies::DONE;
+use rows::Strip;
+ghost use mathlib.Core.Path.{_≡_};
+ghost use lib.ListN.{length};
+ghost use Rattle.stops.specs.Blank.{noStops};
+ghost use Rattle.from_text.specs.Text.{placeTextOf, drawTextReply, textRule, textStops};
+ghost use Rattle.drawing.specs.Drawn.{Drawn};
+
+// No stops, with a reply.
+fn no_placing(reply: u32) -> Placing
+    ensures { λ r. ⌜ r ≡ record { reply = reply; stops = noStops } ⌝ }
+{
+    Placing {
+        reply: reply,
+        stops: stops::no_stops(),
+    }
+}
+
+// The stops of a text, placed in a box, or the reply to a text or a box that is not accepted.
+pub fn place_text(s: &[u8], w: usize, h: usize) -> Placing
+    ensures { λ r. ⌜ r ≡ placeTextOf (now (s .entry)) w h ⌝ }
+{
+    let r = replies::box_reply(w, h);
+    if r != DONE {
+        return no_placing(r);
+    }
+    let reading = reader::read(s);
+    if reading.reply != DONE {
+        return no_placing(reading.reply);
+    }
+    placing::place(reading.gradient, w, h)
+}
+
+// Draws a text.
+pub fn draw_text(s: &[u8], w: usize, h: usize, buf: &mut [u8]) -> u32
+    ensures { λ r. ⌜ Drawn (drawTextReply (now (s .entry)) w h (length (now (buf .entry)))) (textRule (now (s .entry)) w h)
+        (textStops (now (s .entry)) w h) w h r (now (buf .entry)) (now (buf .exit)) ⌝ }
+{
+    let r = replies::room_reply(w, h, buf.len());
+    if r != DONE {
+        return replies::refuse(buf, r);
+    }
+    let reading = reader::read(s);
+    if reading.reply != DONE {
+        return replies::refuse(buf, reading.reply);
+    }
+    drawing::draw_strip(reading.gradient, Strip { w, h, a: 0, b: h }, buf);
+    DONE
+}

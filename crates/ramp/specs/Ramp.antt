@@ -1,0 +1,70 @@
+-- A ramp: the color of every location, in one list of words. The head comes first: word 0 is the number of stops, word 1 the first location of the
+-- table, word 2 is kept for repeating, and word 3 is not used; then there is room for 16 positions, biased, and for 64 values. The rest is the table, one
+-- packed color for each unit.
+-- Assumes nothing.
+use mathlib.Core.Path.{_≡_}
+use mathlib.Core.List.{List, map}
+use Prim.Native.Nat.{ℕ, _+_, _*_, _≤_, _<_}
+use lib.ListN.{length, getD, take, drop}
+use Rattle.numbers.specs.Biased.{bias}
+use Rattle.stops.specs.Bytes.{AllBytes}
+use Rattle.stops.specs.declared.PlacedStop.{PlacedStop}
+use Rattle.color.specs.Stop.{stopOf}
+use Rattle.color.specs.Lent.{Lent, stopsOf}
+use Rattle.table.specs.Table.{entryOf}
+
+-- the words of the head, and the stops that it has room for
+abbrev pub headSize : ℕ
+headSize = 84
+
+abbrev pub mostStops : ℕ
+mostStops = 16
+
+-- the positions and the values of the stops
+abbrev pub positionsIn : List ℕ → List ℕ
+positionsIn r = take (getD r 0 0) (drop 4 r)
+
+abbrev pub valuesIn : List ℕ → List ℕ
+valuesIn r = take (4 * getD r 0 0) (drop 20 r)
+
+-- the table, and its first location
+abbrev pub tableIn : List ℕ → List ℕ
+tableIn r = drop headSize r
+
+abbrev pub baseIn : List ℕ → ℕ
+baseIn r = getD r 1 0
+
+-- the color of the location s, as a word
+unfoldable pub colorIn : List ℕ → ℕ → ℕ
+colorIn r s = entryOf (positionsIn r) (valuesIn r) s
+
+-- t is a table of colors with an entry for each unit from `base` on
+abbrev pub Entries : (ℕ → ℕ) → ℕ → List ℕ → Type 0
+Entries color base t = (k : ℕ) → k < length t → getD t k 0 ≡ color (base + k)
+
+-- .. and with an entry every s units
+abbrev pub Spread : (ℕ → ℕ) → ℕ → ℕ → List ℕ → Type 0
+Spread color base s t = (k : ℕ) → k < length t → getD t k 0 ≡ color (base + k * s)
+
+-- the head of r holds stops
+pub record Stops (r : List ℕ) : Type 0 where
+  pub head : headSize ≤ length r
+  pub few : getD r 0 0 ≤ mostStops
+  pub lent : Lent (positionsIn r) (valuesIn r)
+
+-- r is a ramp: stops, and a table of their colors
+pub record Ramp (r : List ℕ) : Type 0 where
+  pub stops : Stops r
+  pub table : Entries (colorIn r) (baseIn r) (tableIn r)
+  pub range : baseIn r + length (tableIn r) ≤ bias
+
+-- the head of r holds the stops l, whose colors are made of bytes
+pub record Made (l : List PlacedStop) (r : List ℕ) : Type 0 where
+  pub stops : Stops r
+  pub same : stopsOf (positionsIn r) (valuesIn r) ≡ map stopOf l
+  pub bytes : AllBytes l
+
+-- r is a ramp of the same colors as q
+pub record Like (q r : List ℕ) : Type 0 where
+  pub ramp : Ramp r
+  pub colors : (s : ℕ) → colorIn r s ≡ colorIn q s

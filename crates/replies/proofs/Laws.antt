@@ -1,0 +1,86 @@
+-- Laws for the crates above: the order of replies, and what the reply 0 says of a box and a lent slice.
+-- Assumes nothing.
+use mathlib.Core.Path.{_≡_, refl}
+use mathlib.Core.Bool.{Bool, true, false, and-eq-true-iff}
+use Prim.Native.Nat.{ℕ, zero, suc, _*_, _≤_}
+use native.Mathlib.Omega.{arith}
+use borrow.Author.Tests.{ltb-false, leb-true, not-false}
+use Rattle.replies.specs.Replies.{given, _orElse_, lowest}
+use Rattle.replies.specs.Room.{boxIn, boxReply, roomFor, roomReply}
+
+-- ---- no reply, the first one, the next one
+pub orElse-zero : (a b : ℕ) → a orElse b ≡ 0 → (a ≡ 0) × (b ≡ 0)
+orElse-zero zero b e = (refl, e)
+orElse-zero (suc a) b e = absurd (omega arith)
+
+pub orElse-first : {a r : ℕ} (b : ℕ) → r ≡ a → (r ≡ 0 → ⊥) → r ≡ a orElse b
+orElse-first {a = zero} b e n = absurd (n e)
+orElse-first {a = suc a} b e n = e
+
+pub orElse-next : {a b r : ℕ} → a ≡ 0 → r ≡ b → r ≡ a orElse b
+orElse-next e k = rw e k
+
+-- the same for a row of a table
+pub given-zero : (t : Bool) (n : ℕ) → given t (suc n) ≡ 0 → t ≡ false
+given-zero true n e = absurd (omega arith)
+given-zero false n e = refl
+
+pub given-first : {t : Bool} {n : ℕ} (b : ℕ) → t ≡ true → suc n ≡ given t (suc n) orElse b
+given-first b e = rw e
+
+pub given-next : {t : Bool} (n : ℕ) {b r : ℕ} → t ≡ false → r ≡ b → r ≡ given t n orElse b
+given-next n e k = rw e k
+
+-- ---- the lower of two replies
+pub lowest-none : (a b : ℕ) → a ≡ 0 → b ≡ lowest a b
+unfolding lowest
+lowest-none a b e = rw e
+
+pub lowest-first : (a b : ℕ) → (a ≡ 0 → ⊥) → b ≡ 0 → a ≡ lowest a b
+unfolding lowest
+lowest-first zero b n e = absurd (n refl)
+lowest-first (suc a) b n e = rw e
+
+pub lowest-left : (a b : ℕ) → (a ≡ 0 → ⊥) → (b ≡ 0 → ⊥) → a ≤ b → a ≡ lowest a b
+unfolding lowest
+lowest-left zero b n m h = absurd (n refl)
+lowest-left (suc a) zero n m h = absurd (m refl)
+lowest-left (suc a) (suc b) n m h = omega arith
+
+pub lowest-right : (a b : ℕ) → (a ≡ 0 → ⊥) → (b ≡ 0 → ⊥) → (a ≤ b → ⊥) → b ≡ lowest a b
+unfolding lowest
+lowest-right zero b n m h = absurd (n refl)
+lowest-right (suc a) zero n m h = absurd (m refl)
+lowest-right (suc a) (suc b) n m h = omega arith
+
+pub lowest-zero : (a b : ℕ) → lowest a b ≡ 0 → (a ≡ 0) × (b ≡ 0)
+unfolding lowest
+lowest-zero zero b e = (refl, e)
+lowest-zero (suc a) zero e = absurd (omega arith)
+lowest-zero (suc a) (suc b) e = absurd (omega arith)
+
+-- ---- a box that is allowed, and a slice that is long enough
+pub box-sides : (w h : ℕ) → boxIn w h ≡ true → (1 ≤ w) × (w ≤ 2048) × (1 ≤ h) × (h ≤ 2048)
+unfolding boxIn
+box-sides w h e =
+    let a = and-eq-true-iff _ _ .0 e in
+    let b = and-eq-true-iff _ _ .0 (a .1) in
+    let d = and-eq-true-iff _ _ .0 (b .1) in
+    (leb-true 1 w (a .0), leb-true w 2048 (b .0), leb-true 1 h (d .0), leb-true h 2048 (d .1))
+
+pub box-zero : (w h : ℕ) → boxReply w h ≡ 0 → boxIn w h ≡ true
+box-zero w h e = not-false _ (given-zero _ _ e)
+
+pub record Room (w h size n : ℕ) : Type 0 where
+  pub box : boxIn w h ≡ true
+  pub enough : size ≤ n
+
+pub room-zero : (w h size n : ℕ) → roomFor w h size n ≡ 0 → Room w h size n
+unfolding roomFor
+room-zero w h size n e =
+    let k = orElse-zero _ _ e in
+    record { box = box-zero w h (k .0); enough = ltb-false n size (given-zero _ _ (k .1)) }
+
+pub picture-zero : (w h n : ℕ) → roomReply w h n ≡ 0 → Room w h (4 * w * h) n
+unfolding roomReply
+picture-zero w h n e = room-zero w h (4 * w * h) n e

@@ -1,0 +1,3 @@
+pub mod Certain
+pub mod Columns
+pub mod Shifts

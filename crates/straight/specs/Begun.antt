@@ -1,0 +1,25 @@
+-- Rows of a picture that are drawn up to a column, over what was in the buffer before.
+-- Assumes nothing.
+use mathlib.Core.Path.{_≡_}
+use mathlib.Core.Bool.{cond}
+use mathlib.Core.List.{List, [], _∷_}
+use Prim.Native.Nat.{ℕ, _+_, _-_, _*_}
+use lib.Dec.{ltb}
+use lib.ListN.{getD}
+use Rattle.picture.specs.Picture.{strip, patched}
+
+-- the four bytes from o on
+abbrev pub fourAt : List ℕ → ℕ → List ℕ
+fourAt d o = getD d o 0 ∷ getD d (o + 1) 0 ∷ getD d (o + 2) 0 ∷ getD d (o + 3) 0 ∷ []
+
+-- what stands for pixel (k, j) in a buffer whose rows, from row a on and w pixels wide, start at `at`
+abbrev pub standing : List ℕ → ℕ → ℕ → ℕ → ℕ → ℕ → List ℕ
+standing d at w a k j = fourAt d (at + 4 * ((j - a) * w + k))
+
+-- px in the first i columns, and what stands in the buffer d in the others
+unfoldable pub upTo : (ℕ → ℕ → List ℕ) → ℕ → List ℕ → ℕ → ℕ → ℕ → ℕ → ℕ → List ℕ
+upTo px i d at w a k j = cond (ltb k i) (px k j) (standing d at w a k j)
+
+-- the first i columns of rows a up to b are drawn from `at` on, and all else is as in d
+abbrev pub Begun : (ℕ → ℕ → List ℕ) → ℕ → ℕ → ℕ → ℕ → List ℕ → ℕ → List ℕ → Type 0
+Begun px w a b i d at buf = buf ≡ patched d at (strip (upTo px i d at w a) w a b)

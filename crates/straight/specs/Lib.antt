@@ -1,0 +1,3 @@
+pub mod Certain
+pub mod Begun
+pub mod Shift

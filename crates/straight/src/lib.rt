@@ -1,0 +1,379 @@
+// Strips of a picture along a straight line: the same bytes as `rows` draws, faster. Locations are found in fixed point and colors in the ramp's table, tile
+// by tile. A row that is an earlier row moved sideways is copied from it.
+use fixed::RowLine;
+use fixed::Steps;
+use line::Line;
+use line::SignedVector;
+use rows::Strip;
+ghost use mathlib.Core.Path.{_≡_};
+ghost use mathlib.Core.Bool.{true, false, Bool·beq};
+ghost use mathlib.Core.List.{List};
+ghost use Prim.Native.Nat.{ℕ, _+_, _-_, _*_, _≤_, _<_};
+ghost use lib.ListN.{length};
+ghost use Rattle.line.specs.Box.{Box};
+ghost use Rattle.line.specs.Represented.{Bounded, ruleIn};
+ghost use Rattle.line.specs.declared.SignedVector.{SignedVector};
+ghost use Rattle.picture.specs.Picture.{row, part, strip, patched};
+ghost use Rattle.ramp.specs.Ramp.{Entries, Ramp};
+ghost use Rattle.rows.specs.Pixel.{Rows, pixelBy, rampPixel, stripOf};
+ghost use Rattle.fixed.specs.Steps.{Steady, AlongRow};
+ghost use Rattle.straight.specs.Certain.{AllCertain};
+ghost use Rattle.straight.specs.Begun.{Begun};
+ghost use Rattle.straight.specs.Shift.{Straight, Copies, Stands, Next, Shifted};
+
+// The columns of a tile. A tile is so small that the first cache holds the entries that it needs.
+const TILE_COLUMNS: usize = 64;
+
+// The rows of a tile.
+const TILE_ROWS: usize = 16;
+
+// ---- n pixels of row j, from pixel i on
+
+// Finds the location of each pixel, from its place or by the exact rule.
+fn draw_by_locations(
+    ramp: &[u32],
+    r: RowLine,
+    v: SignedVector,
+    z: Strip,
+    j: usize,
+    i: usize,
+    n: usize,
+    at: usize,
+    buf: &mut [u8],
+)
+    requires { ⌜ Ramp (now ramp) × AlongRow r v (z .w) (z .h) j × (i + n ≤ z .w) × (at + 4 * n ≤ length (now buf)) ⌝ }
+    ensures { λ _. ⌜ now (buf .exit) ≡ patched (now (buf .entry)) at (part (rampPixel (now (ramp .entry)) (Line.Straight v) (z .w) (z .h)) i n j) ⌝ }
+{
+    let mut k = 0;
+    let mut o = at;
+    while k < n {
+        let s = fixed::locate(r, v, z.w, z.h, i + k, j);
+        let c = ramp::color(ramp, s as u64);
+        words::put_word(buf, o, c);
+        o += 4;
+        k += 1;
+    }
+}
+
+// Reads each color at the whole part of the pixel's place: the table has all of them.
+fn draw_from_table(t: &[u32], base: u32, r: RowLine, i: usize, n: usize, at: usize, buf: &mut [u8])
+    requires { ⌜ (0 < n) × AllCertain r i n base (length (now t)) × (at + 4 * n ≤ length (now buf)) ⌝ }
+    ensures { λ _. ⌜ ((color : ℕ → ℕ) (v : SignedVector) (w h j : ℕ) → Entries color base (now (t .entry)) → AlongRow r v w h j → i + n ≤ w
+        → now (buf .exit) ≡ patched (now (buf .entry)) at (part (pixelBy (ruleIn (Line.Straight v) w h) color) i n j)) ⌝ }
+{
+    let step = fixed::step(r);
+    let mut e = fixed::place(r, i) - (base as u64) * fixed::ONE;
+    let mut k = 0;
+    let mut o = at;
+    while k < n {
+        words::put_word(buf, o, t[(e / fixed::ONE) as usize]);
+        e = std::num::wrapping_add_u64(e, step);
+        o += 4;
+        k += 1;
+    }
+}
+
+// From the table where it has all the colors, else location by location.
+fn draw_part(
+    ramp: &[u32],
+    r: RowLine,
+    v: SignedVector,
+    z: Strip,
+    j: usize,
+    i: usize,
+    n: usize,
+    at: usize,
+    buf: &mut [u8],
+)
+    requires { ⌜ Ramp (now ramp) × AlongRow r v (z .w) (z .h) j × (i + n ≤ z .w) × (at + 4 * n ≤ length (now buf)) ⌝ }
+    ensures { λ _. ⌜ now (buf .exit) ≡ patched (now (buf .entry)) at (part (rampPixel (now (ramp .entry)) (Line.Straight v) (z .w) (z .h)) i n j) ⌝ }
+{
+    if n == 0 {
+        return;
+    }
+    let t = ramp::table_of(ramp);
+    let base = ramp::base_of(ramp);
+    if fixed::floors_certain(r, i, n, base, t.len()) {
+        draw_from_table(t, base, r, i, n, at, buf);
+    } else {
+        draw_by_locations(ramp, r, v, z, j, i, n, at, buf);
+    }
+}
+
+// ---- tiles
+
+// Draws the columns from i up to i + n of a strip whose rows start at `at`.
+fn draw_columns(
+    ramp: &[u32],
+    steps: Steps,
+    v: SignedVector,
+    z: Strip,
+    i: usize,
+    n: usize,
+    at: usize,
+    buf: &mut [u8],
+)
+    requires { ⌜ Ramp (now ramp) × Box (z .w) (z .h) × Steady steps v × (z .a ≤ z .b) × (z .b ≤ z .h) × (at + 4 * z .w * (z .b - z .a) ≤ length (now buf)) × (i + n ≤ z .w) ⌝ }
+    ensures { λ _. ⌜ ((d : List ℕ) → length d ≡ length (now (buf .entry)) → Begun (rampPixel (now (ramp .entry)) (Line.Straight v) (z .w) (z .h)) (z .w) (z .a) (z .b) i d at (now (buf .entry))
+        → Begun (rampPixel (now (ramp .entry)) (Line.Straight v) (z .w) (z .h)) (z .w) (z .a) (z .b) (i + n) d at (now (buf .exit))) ⌝ }
+{
+    let m = 4 * z.w;
+    let mut j = z.a;
+    let mut o = at;
+    while j < z.b {
+        let r = fixed::row_line(steps, v, z.w, z.h, j);
+        draw_part(ramp, r, v, z, j, i, n, o + 4 * i, buf);
+        o += m;
+        j += 1;
+    }
+}
+
+// Draws a strip from `at` on, a tile's columns at a time.
+fn draw_band(ramp: &[u32], steps: Steps, v: SignedVector, z: Strip, at: usize, buf: &mut [u8])
+    requires { ⌜ Ramp (now ramp) × Box (z .w) (z .h) × Steady steps v × (z .a ≤ z .b) × (z .b ≤ z .h) × (at + 4 * z .w * (z .b - z .a) ≤ length (now buf)) ⌝ }
+    ensures { λ _. ⌜ now (buf .exit) ≡ patched (now (buf .entry)) at (stripOf (now (ramp .entry)) (Line.Straight v) z) ⌝ }
+{
+    let mut i = 0;
+    while i < z.w {
+        let n = picture::at_most(TILE_COLUMNS, z.w - i);
+        draw_columns(ramp, steps, v, z, i, n, at, buf);
+        i += n;
+    }
+}
+
+// Draws a strip from the buffer's start, a tile's rows at a time.
+fn draw_tiles(ramp: &[u32], steps: Steps, v: SignedVector, z: Strip, buf: &mut [u8])
+    requires { ⌜ Ramp (now ramp) × Box (z .w) (z .h) × Steady steps v × Rows z (length (now buf)) ⌝ }
+    ensures { λ _. ⌜ now (buf .exit) ≡ patched (now (buf .entry)) 0 (stripOf (now (ramp .entry)) (Line.Straight v) z) ⌝ }
+{
+    let mut j = z.a;
+    let mut o = 0;
+    while j < z.b {
+        let n = picture::at_most(TILE_ROWS, z.b - j);
+        let end = j + n;
+        let band = Strip {
+            w: z.w,
+            h: z.h,
+            a: j,
+            b: end,
+        };
+        draw_band(ramp, steps, v, band, o, buf);
+        o += 4 * z.w * n;
+        j = end;
+    }
+}
+
+// ---- rows that are earlier rows moved sideways
+
+// Going down so many rows is as far along the line as going across so many columns.
+pub struct Shift {
+    pub rows: usize,
+    pub columns: usize,
+}
+
+// The greatest common divisor, by Euclid's algorithm. Nothing is proved of it: a shift is tested before it is used.
+fn common(x: u32, y: u32) -> u32 {
+    let mut a = x;
+    let mut b = y;
+    while b > 0 {
+        let r = a % b;
+        a = b;
+        b = r;
+    }
+    a
+}
+
+// A shift that copies nothing.
+pub fn no_shift() -> Shift {
+    Shift {
+        rows: 0,
+        columns: 0,
+    }
+}
+
+// The least shift along a vector.
+pub fn shift_of(v: SignedVector) -> Shift {
+    let g = common(v.x, v.y);
+    if g == 0 {
+        return no_shift();
+    }
+    Shift {
+        rows: (v.x / g) as usize,
+        columns: (v.y / g) as usize,
+    }
+}
+
+// How many of the pixels in n rows of w are not copied.
+fn new_pixels(s: Shift, w: usize, n: usize) -> usize
+    requires { ⌜ (w ≤ 2048) × (n ≤ 2048) × (s .rows < n) × (s .columns ≤ w) ⌝ }
+    ensures { λ r. ⌜ (r ≡ s .rows * w + (n - s .rows) * s .columns) × (r ≤ 8388608) ⌝ }
+{
+    s.rows * w + (n - s.rows) * s.columns
+}
+
+// Whether a shift is one along v that leaves at most a sixteenth of the pixels in n rows of w to draw.
+fn is_worthwhile(v: SignedVector, s: Shift, w: usize, n: usize) -> bool
+    requires { ⌜ Bounded v × (w ≤ 2048) × (n ≤ 2048) ⌝ }
+    ensures { λ r. ⌜ (r ≡ true → Copies v s w n) ⌝ }
+{
+    if s.rows == 0 {
+        return false;
+    }
+    if s.rows >= n {
+        return false;
+    }
+    if s.columns > w {
+        return false;
+    }
+    if (v.x as usize) * s.columns != (v.y as usize) * s.rows {
+        return false;
+    }
+    16 * new_pixels(s, w, n) <= n * w
+}
+
+// Draws row j at `at`: the earlier row, which is at `from`, without its first pixels, and then new ones.
+fn draw_ahead(
+    ramp: &[u32],
+    v: SignedVector,
+    r: RowLine,
+    s: Shift,
+    z: Strip,
+    j: usize,
+    from: usize,
+    at: usize,
+    buf: &mut [u8],
+)
+    requires { ⌜ Next (now ramp) v s (z .w) (z .h) j from at (now buf) × AlongRow r v (z .w) (z .h) j × (Bool·beq (v .left) (v .up) ≡ true) ⌝ }
+    ensures { λ _. ⌜ now (buf .exit) ≡ patched (now (buf .entry)) at (row (rampPixel (now (ramp .entry)) (Line.Straight v) (z .w) (z .h)) (z .w) j) ⌝ }
+{
+    let n = z.w - s.columns;
+    picture::copy_row(buf, from + 4 * s.columns, at, 4 * n);
+    draw_part(ramp, r, v, z, j, n, s.columns, at + 4 * n, buf);
+}
+
+// The same where the signs differ: new pixels, and then the earlier row without its last ones.
+fn draw_behind(
+    ramp: &[u32],
+    v: SignedVector,
+    r: RowLine,
+    s: Shift,
+    z: Strip,
+    j: usize,
+    from: usize,
+    at: usize,
+    buf: &mut [u8],
+)
+    requires { ⌜ Next (now ramp) v s (z .w) (z .h) j from at (now buf) × AlongRow r v (z .w) (z .h) j × (Bool·beq (v .left) (v .up) ≡ false) ⌝ }
+    ensures { λ _. ⌜ now (buf .exit) ≡ patched (now (buf .entry)) at (row (rampPixel (now (ramp .entry)) (Line.Straight v) (z .w) (z .h)) (z .w) j) ⌝ }
+{
+    let n = z.w - s.columns;
+    draw_part(ramp, r, v, z, j, 0, s.columns, at, buf);
+    picture::copy_row(buf, from, at + 4 * s.columns, 4 * n);
+}
+
+// Draws row j at `at`, from the row that is the shift's rows above it and stands at `from`.
+fn draw_next(
+    ramp: &[u32],
+    v: SignedVector,
+    steps: Steps,
+    s: Shift,
+    z: Strip,
+    j: usize,
+    from: usize,
+    at: usize,
+    buf: &mut [u8],
+)
+    requires { ⌜ Next (now ramp) v s (z .w) (z .h) j from at (now buf) × Steady steps v ⌝ }
+    ensures { λ _. ⌜ now (buf .exit) ≡ patched (now (buf .entry)) at (row (rampPixel (now (ramp .entry)) (Line.Straight v) (z .w) (z .h)) (z .w) j) ⌝ }
+{
+    let r = fixed::row_line(steps, v, z.w, z.h, j);
+    if v.left == v.up {
+        draw_ahead(ramp, v, r, s, z, j, from, at, buf);
+    } else {
+        draw_behind(ramp, v, r, s, z, j, from, at, buf);
+    }
+}
+
+// Draws the rows after the shift's first ones, which are in the buffer already.
+fn draw_shifted(ramp: &[u32], v: SignedVector, steps: Steps, s: Shift, z: Strip, buf: &mut [u8])
+    requires { ⌜ Ramp (now ramp) × Shifted v s z (length (now buf)) × Stands (strip (rampPixel (now ramp) (Line.Straight v) (z .w) (z .h)) (z .w) (z .a) (z .a + s .rows)) 0 (now buf) × Steady steps v ⌝ }
+    ensures { λ _. ⌜ now (buf .exit) ≡ patched (now (buf .entry)) 0 (stripOf (now (ramp .entry)) (Line.Straight v) z) ⌝ }
+{
+    let n = 4 * z.w;
+    let mut j = z.a + s.rows;
+    let mut from = 0;
+    let mut o = n * s.rows;
+    while j < z.b {
+        draw_next(ramp, v, steps, s, z, j, from, o, buf);
+        from += n;
+        o += n;
+        j += 1;
+    }
+}
+
+// Draws a strip: the shift's first rows in tiles, and the others as copies of earlier ones.
+fn draw_with_copies(ramp: &[u32], steps: Steps, v: SignedVector, s: Shift, z: Strip, buf: &mut [u8])
+    requires { ⌜ Ramp (now ramp) × Shifted v s z (length (now buf)) × Steady steps v ⌝ }
+    ensures { λ _. ⌜ now (buf .exit) ≡ patched (now (buf .entry)) 0 (stripOf (now (ramp .entry)) (Line.Straight v) z) ⌝ }
+{
+    let head = Strip {
+        w: z.w,
+        h: z.h,
+        a: z.a,
+        b: z.a + s.rows,
+    };
+    draw_tiles(ramp, steps, v, head, buf);
+    draw_shifted(ramp, v, steps, s, z, buf);
+}
+
+// ---- strips
+
+// Draws a strip from the buffer's start, with copies where the shift is worthwhile. Any shift is right; the one of `shift_of` is fastest.
+pub fn draw(ramp: &[u32], v: SignedVector, s: Shift, z: Strip, buf: &mut [u8])
+    requires { ⌜ Ramp (now ramp) × Straight v z (length (now buf)) ⌝ }
+    ensures { λ _. ⌜ now (buf .exit) ≡ patched (now (buf .entry)) 0 (stripOf (now (ramp .entry)) (Line.Straight v) z) ⌝ }
+{
+    let steps = fixed::steps_of(v);
+    if is_worthwhile(v, s, z.w, z.b - z.a) {
+        draw_with_copies(ramp, steps, v, s, z, buf);
+    } else {
+        draw_tiles(ramp, steps, v, z, buf);
+    }
+}
+
+// The location of a pixel in a corner of a strip.
+fn corner(v: SignedVector, z: Strip, right: bool, below: bool) -> u32
+    requires { ⌜ Box (z .w) (z .h) × Bounded v × (z .a < z .b) × (z .b ≤ z .h) ⌝ }
+{
+    let i = if right { z.w - 1 } else { 0 };
+    let j = if below { z.b - 1 } else { z.a };
+    line::location(Line::Straight(v), z.w, z.h, i, j, 0) as u32
+}
+
+// The least location in a strip.
+pub fn first(v: SignedVector, z: Strip) -> u32
+    requires { ⌜ Box (z .w) (z .h) × Bounded v × (z .a < z .b) × (z .b ≤ z .h) ⌝ }
+{
+    corner(v, z, v.left, v.up)
+}
+
+// The greatest location in a strip.
+pub fn last(v: SignedVector, z: Strip) -> u32
+    requires { ⌜ Box (z .w) (z .h) × Bounded v × (z .a < z .b) × (z .b ≤ z .h) ⌝ }
+{
+    corner(v, z, !v.left, !v.up)
+}
+
+// How many entries a table should have where the locations take n: none where copies leave few pixels to draw.
+pub fn entries(v: SignedVector, s: Shift, z: Strip, n: usize) -> usize
+    requires { ⌜ Box (z .w) (z .h) × Bounded v × (z .a < z .b) × (z .b ≤ z .h) ⌝ }
+    ensures { λ r. ⌜ r ≤ n ⌝ }
+{
+    let rows = z.b - z.a;
+    if is_worthwhile(v, s, z.w, rows) {
+        if new_pixels(s, z.w, rows) < n / 16 {
+            return 0;
+        }
+    }
+    n
+}
