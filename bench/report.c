@@ -217,9 +217,9 @@ static int report_goal(struct report *report, const struct times times[BOXES], i
         "to qt",
         "to cairo",
         "to memset",
+        "64x64 to qt",
         "640x480 to 2048x2048",
         "2048x64 to 2048x2048",
-        "64x64 to 2048x2048",
     };
     int misses = 0;
     printf("%-14s%5d", directions[direction], stops);
@@ -241,9 +241,10 @@ void report_goals(struct report *report, const struct times times[BOXES]) {
     json_list(report, "goals");
     printf(
         "\nGOALS: ratios of the library's times, each of the most that it should be; ! where it is more\n");
-    printf("%-19s%-48s%s\n", "", "    at 2048x2048, to the others", " ns per pixel, to its own at 2048x2048");
+    printf("%-19s%-48s%-16s%s\n", "", "    at 2048x2048, to the others", "    at 64x64",
+           " ns per pixel, to its own at 2048x2048");
     printf("%-14s%5s%8s%16s%16s", "direction", "stops", "Qt", "cairo", "memset");
-    printf("%16s%16s%16s\n", "640x480", "2048x64", "64x64");
+    printf("%16s%16s%16s\n", "Qt", "640x480", "2048x64");
     for (int direction = 0; direction < DIRECTIONS; direction++) {
         misses += report_goal(report, times, direction, 2);
         misses += report_goal(report, times, direction, STOPS_MAX);
