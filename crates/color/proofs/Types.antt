@@ -13,16 +13,13 @@ use Rattle.stops.specs.declared.PlacedStop.{PlacedStop}
 use Rattle.stops.specs.declared.PlacedStops.{PlacedStops}
 use Rattle.stops.proofs.PlacedStop as PlacedStopType
 use Rattle.stops.proofs.PlacedStops as PlacedStopsType
+use Rattle.gradient.proofs.Laws.{blank-bytes}
 use Rattle.gradient.specs.Bytes.{ColorBytes}
-use Rattle.gradient.specs.Blank.{blankColor}
 use Rattle.stops.specs.Bytes.{AllBytes}
 
 -- that a value is one of a field's type, at its machine values
 abbrev pub Told : (F : Field) → F .Value → List Val → Type 0
 Told F x vs = shadow (F .row .own (F .into x) vs)
-
-blank-bytes : ColorBytes blankColor
-blank-bytes = record { red = omega arith; green = omega arith; blue = omega arith; alpha = omega arith }
 
 stop-bytes : (s : PlacedStop) (vs : List Val) → Told PlacedStopType.the-field s vs → ColorBytes (s .color)
 stop-bytes s vs h = record { red = omega arith; green = omega arith; blue = omega arith; alpha = omega arith }

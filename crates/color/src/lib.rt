@@ -52,7 +52,7 @@ fn stop_byte(p: u32) -> u8
     ((2 * p + 255) / 510) as u8
 }
 
-// 2^54 over what a mix between stops that are g units apart is divided by, rounded down.
+// The inverse, in fixed point, of what a mix between stops g units apart is divided by, rounded down.
 pub fn inverse_of(g: u64) -> u64
     requires { ⌜ (0 < g) × (g < 2 ^ 34) ⌝ }
     ensures { λ r. ⌜ (r ≡ scale / (510 * g)) × Inverse (510 * g) r ⌝ }
@@ -75,7 +75,7 @@ fn quotient(n: u64, d: u64, inverse: u64) -> u64
     n / d
 }
 
-// The byte at x units from P's stop and y from Q's. Here and below the inverse changes only the time.
+// The byte at x units from P's stop and y from Q's. The inverse affects only how long it takes, here and below.
 fn mix_byte(p: u32, q: u32, x: u32, y: u32, inverse: u64) -> u8
     requires { ⌜ (p ≤ 65025) × (q ≤ 65025) × (0 < y) × Inverse (510 * (x + y)) inverse ⌝ }
     ensures { λ r. ⌜ r ≡ nearest (mix p q x y) ⌝ }

@@ -11,7 +11,8 @@ use lib.Signed.{nonNeg}
 use borrow.Author.Tests.{ltb-false, le-ltb, leb-true, eqb-true, not-false}
 use Rattle.replies.proofs.Laws.{orElse-zero, given-zero}
 use Rattle.gradient.specs.Lists.{all}
-use Rattle.gradient.specs.Blank.{blankStop}
+use Rattle.gradient.specs.Blank.{blankColor, blankStop}
+use Rattle.gradient.specs.Bytes.{ColorBytes}
 use Rattle.gradient.specs.Range.{lengthIn, radiusIn, percentageIn, angleIn, coordinateIn, directionIn, sizeIn, shapeIn, stopIn}
 use Rattle.gradient.specs.Check.{stopsOf, stopsIn, checkOf, Accepted}
 use Rattle.gradient.specs.declared.Direction.{Direction}
@@ -20,6 +21,10 @@ use Rattle.gradient.specs.declared.Coordinate.{Coordinate}
 use Rattle.gradient.specs.declared.Shape.the-variants.{Linear, Circle}
 use Rattle.gradient.specs.declared.Gradient.{Gradient}
 use Rattle.gradient.proofs.Lists.{all-first, all-from}
+
+-- the blank color is made of bytes
+pub blank-bytes : ColorBytes blankColor
+blank-bytes = record { red = omega arith; green = omega arith; blue = omega arith; alpha = omega arith }
 
 -- ---- the gradients that are accepted
 each-in : (g : Gradient) → stopsIn g ≡ true → (i : ℕ) → i < g .count → stopIn (getD (g .stops) i blankStop) ≡ true

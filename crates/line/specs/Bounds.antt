@@ -1,5 +1,5 @@
--- The greatest line length, location and position in units, for any gradient that `check` accepts and any box, and that the form in which
--- the code holds them fits. Everything that draws relies on these.
+-- The greatest line length, location and position in units, for any gradient that `check` accepts and any box; biased, all of them fit 32 bits.
+-- Everything that draws relies on these.
 -- Assumes nothing.
 use mathlib.Core.Path.{_≡_}
 use mathlib.Core.Bool.{true}

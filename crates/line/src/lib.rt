@@ -109,7 +109,7 @@ fn angle_vector(a: i32) -> SignedVector
     requires { ⌜ natAbs a ≤ bias ⌝ }
     ensures { λ r. ⌜ IsVector r (angleVector a) ⌝ }
 {
-    // 2^25 and 285,568 is 94 whole turns
+    // 2^25 + 285,568 = 94 · 360,000: whole turns
     let q = (numbers::biased(a) + 285568) % 360000 / 250;
     let r = (q % 360) as usize;
     let near = sine::sine(r);
@@ -163,7 +163,7 @@ fn weighted(a: u64, b: u64, v: SignedVector) -> u64
     a * x + b * y
 }
 
-// The greatest q whose square times the vector's norm is at most t squared. The guess changes only the time.
+// The greatest q whose square times the vector's norm is at most t squared. The guess affects only how long it takes.
 fn on_line(t: u64, v: SignedVector, guess: u32) -> u64
     requires { ⌜ (t < 4294967296) × Bounded v ⌝ }
     ensures { λ r. ⌜ r ≡ rootOf (norm (vectorIn v)) (squared t) ⌝ }
@@ -178,7 +178,7 @@ fn vector_length(v: SignedVector, w: usize, h: usize) -> u64
     ensures { λ r. ⌜ r ≡ lineLength w h (vectorIn v) ⌝ }
 {
     let t = 64 * weighted(w as u64, h as u64, v);
-    // this guess is right where the line is level or upright
+    // this guess is right where the line is horizontal or vertical
     on_line(t, v, (t / ((v.x + v.y) as u64)) as u32)
 }
 
@@ -233,7 +233,7 @@ fn distance(c: u32, m: u64) -> u64
     numbers::apart(m + numbers::WIDE_BIAS, c as u64)
 }
 
-// The root of the sum of two squares. The guess changes only the time.
+// The root of the sum of two squares. The guess affects only how long it takes.
 fn hypotenuse(a: u64, b: u64, guess: u32) -> u64
     requires { ⌜ (a < twiceBias) × (b < twiceBias) ⌝ }
     ensures { λ r. ⌜ r ≡ rootOf 1 (squared a + squared b) ⌝ }

@@ -5,7 +5,7 @@ ghost use lib.IntN.{natAbs, pos, _-ℤ_};
 ghost use Rattle.numbers.specs.Biased.{bias, twiceBias, biased, unbiased};
 ghost use Rattle.numbers.specs.Units.{rounded, lengthUnits, percentageUnits, mostWhole};
 
-// 2^25, what a biased number is above the number that it stands for; then the same in 64 bits, and signed.
+// 2^25: how far a biased number is above the one that it stands for. Then the same in 64 bits, and signed.
 pub const BIAS: u32 = 33554432;
 
 pub const WIDE_BIAS: u64 = BIAS as u64;
@@ -55,7 +55,7 @@ pub fn length_units(t: i32) -> u32
     requires { ⌜ natAbs t ≤ 8192000 ⌝ }
     ensures { λ r. ⌜ unbiased r ≡ lengthUnits t ⌝ }
 {
-    // 2^25 times 64 and 352 is 2,147,484 thousand; 2^25 is 31,406,948 more than that many units
+    // 2^25 · 64 + 352 = 2,147,484,000, and 2^25 − 2,147,484 = 31,406,948
     let n = round((biased(t) as u64) * 64 + 352, 1000);
     (n + 31406948) as u32
 }
@@ -65,7 +65,7 @@ pub fn percentage_units(p: i32, whole: u32) -> u32
     requires { ⌜ (natAbs p ≤ 1000000) × (whole ≤ mostWhole) ⌝ }
     ensures { λ r. ⌜ unbiased r ≡ percentageUnits p whole ⌝ }
 {
-    // 2^25 and 45,568 is 336 times 100,000
+    // 2^25 + 45,568 = 336 · 100,000
     let w = whole as u64;
     let n = round(((biased(p) as u64) + 45568) * w, 100000);
     (n + WIDE_BIAS - 336 * w) as u32

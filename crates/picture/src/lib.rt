@@ -55,8 +55,8 @@ pub fn at_most(most: usize, n: usize) -> usize
     if n < most { n } else { most }
 }
 
-// Copies the n bytes that stand from `from` on to a later place, block by block: a compiler tests the places of many rows that are copied in one loop
-// for an overlap once for all of them, and finds one.
+// Copies the n bytes that stand from `from` on to a later place, block by block. Copied in one loop, many rows are tested for an overlap all at once,
+// one is found, and every byte is copied by itself.
 pub fn copy_row(buf: &mut [u8], from: usize, to: usize, n: usize)
     requires { ⌜ (from + n ≤ to) × (to + n ≤ length (now buf)) ⌝ }
     ensures { λ _. ⌜ now (buf .exit) ≡ patched (now (buf .entry)) to (take n (drop from (now (buf .entry)))) ⌝ }
@@ -81,8 +81,8 @@ fn copy_piece(buf: &mut [u8], at: usize, bytes: &[u8])
     }
 }
 
-// Copies all of `bytes` to `at`, 2,048 at a time: more the C library copies by one string instruction, whose time depends on where in their pages the
-// two stand.
+// Copies all of `bytes` to `at`, 2,048 at a time: longer runs the C library copies by one string instruction, whose speed depends on where in their
+// pages the two lie.
 pub fn copy_in(buf: &mut [u8], at: usize, bytes: &[u8])
     requires { ⌜ at + length (now bytes) ≤ length (now buf) ⌝ }
     ensures { λ _. ⌜ now (buf .exit) ≡ patched (now (buf .entry)) at (now (bytes .entry)) ⌝ }

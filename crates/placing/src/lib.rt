@@ -142,7 +142,7 @@ fn next_placed(ps: &[u32], from: usize) -> Next
     }
 }
 
-// The position m parts of k on the way from a to b.
+// The position m/k of the way from a to b.
 fn part_way(a: u32, b: u32, m: usize, k: usize) -> u32
     requires { ⌜ (a ≤ b) × (m < k) × (k ≤ 64) ⌝ }
     ensures { λ r. ⌜ unbiased r ≡ between (unbiased a) (unbiased b) m k ⌝ }

@@ -21,7 +21,7 @@ pub fn root(x: u64) -> u64
     low
 }
 
-// x less the square of g, wrapped at 2^64: at most 2g only where g is the root of x.
+// x − g², modulo 2^64: at most 2g only where g is the root of x.
 fn over_square(x: u64, g: u32) -> u64
     ensures { λ r. ⌜ (r ≤ 2 * g → g ≡ rootOf 1 x) ⌝ }
 {
@@ -29,7 +29,7 @@ fn over_square(x: u64, g: u32) -> u64
     std::num::wrapping_sub_u64(x, b * b)
 }
 
-// A number near the root of x, from a number near it: any will do.
+// A better guess at the root of x, from a guess. Any answer is allowed.
 fn newton(x: u64, g: u32) -> u32 {
     let b = g as u64 + 1;
     ((b / 2 + x / b / 2) % 4294967296) as u32
@@ -57,7 +57,7 @@ fn reaches(x: u64, y: u64) -> u64
     if y <= x { 1 } else { 0 }
 }
 
-// The guess or one of the two numbers after it, whichever may be the root of x over n: any will do.
+// Of the guess and the two numbers after it, the one that may be the root of x / n. Any answer is allowed.
 fn nearby(n: u64, x: u64, g: u32) -> u64
     requires { ⌜ n < 1073741824 ⌝ }
     ensures { λ r. ⌜ r < 131072 ⌝ }
@@ -80,8 +80,7 @@ fn is_root(n: u64, x: u64, q: u64) -> bool
     e <= x && x - e < (2 * q + 1) * n
 }
 
-// The greatest q with q²·n ≤ x, tried at a guess and the two numbers after it before it is searched for. Whatever the guess is, the answer is the
-// same.
+// The greatest q with q²·n ≤ x. The guess and the two numbers after it are tried before it is searched for; the answer does not depend on the guess.
 pub fn root_near(n: u64, x: u64, g: u32) -> u64
     requires { ⌜ (0 < n) × (n < 1073741824) ⌝ }
     ensures { λ r. ⌜ r ≡ rootOf n x ⌝ }
@@ -93,7 +92,7 @@ pub fn root_near(n: u64, x: u64, g: u32) -> u64
     root_from(x / n, g)
 }
 
-// One less than the root after the two before it, were all as far apart: the next root is then this, or one or two more. Wrapped at 2^32.
+// One less than the number that would come after two, were all three equally far apart, modulo 2^32: the next root is often this, or one or two more.
 pub fn ahead(before: u32, last: u32) -> u32
     ensures { λ r. ⌜ (r + before + 1) % 4294967296 ≡ 2 * last % 4294967296 ⌝ }
 {

@@ -3,7 +3,6 @@
 use mathlib.Core.Bool.{cond}
 use mathlib.Core.List.{List, [], _∷_, _++_}
 use Prim.Native.Nat.{ℕ, zero, suc, _-_}
-use native.Mathlib.Omega.{arith}
 use lib.Dec.{ltb}
 use lib.IntN.{ℤ}
 use lib.ListN.{length, take, replicate}
@@ -15,15 +14,13 @@ use Rattle.gradient.specs.declared.Color.{Color}
 use Rattle.gradient.specs.declared.Position.{Position}
 use Rattle.gradient.specs.declared.Position.the-variants as P
 use Rattle.gradient.specs.declared.Stop.{Stop}
-use Rattle.gradient.specs.Blank.{blankColor, blankStop}
+use Rattle.gradient.specs.Blank.{blankStop}
+use Rattle.gradient.proofs.Laws.{blank-bytes}
 use Rattle.gradient.specs.Bytes.{ColorBytes, StopBytes}
 use Rattle.stoplist.specs.Stops.{stop, stopPositionOf, stopOf, stopsOf, twoStopsOf}
 use Rattle.stoplist.specs.View.{places}
 
 -- ---- lists of stops
-blank-bytes : ColorBytes blankColor
-blank-bytes = record { red = omega arith; green = omega arith; blue = omega arith; alpha = omega arith }
-
 bytes-nil : StopBytes []
 bytes-nil i = blank-bytes
 

@@ -21,13 +21,13 @@ fn say(label: &[u8], n: u64) {
     io::write_all(STDOUT_FILENO, b"\n");
 }
 
-// A number that is with 2^25 added.
+// A biased number.
 fn say_biased(label: &[u8], u: u32) {
     io::write_all(STDOUT_FILENO, label);
-    if u < 33554432 {
+    if u < numbers::BIAS {
         io::write_all(STDOUT_FILENO, b"-");
     }
-    io::print_decimal(STDOUT_FILENO, numbers::apart(u as u64, 33554432));
+    io::print_decimal(STDOUT_FILENO, numbers::apart(u as u64, numbers::WIDE_BIAS));
     io::write_all(STDOUT_FILENO, b"\n");
 }
 
