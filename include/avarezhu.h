@@ -7,10 +7,9 @@
  *
  *     const char *text = "linear-gradient(to right, black, white)";
  *     uint8_t pixels[AVAREZHU_PIXELS_SIZE(4, 1)];
- *     uint32_t reply = avarezhu_draw((const uint8_t *)text, strlen(text), 4, 1, pixels, sizeof pixels);
- *     if (reply != AVAREZHU_DONE) {
- *         // nothing was drawn: pixels holds zeros only, and reply says why
- *     }
+ *     uint32_t reply = avarezhu_draw(text, strlen(text), 4, 1, pixels, sizeof pixels);
+ *     if (reply != AVAREZHU_DONE)
+ *         puts(avarezhu_message(reply)); // nothing was drawn: pixels holds zeros only
  *
  * It leaves 32 32 32 255, 96 96 96 255, 159 159 159 255, 223 223 223 255.
  *
@@ -34,6 +33,21 @@
 #include <stddef.h>
 #include <stdint.h>
 
+/* The version, as a number that grows (10,000 for 1.0.0) and as a string. */
+#define AVAREZHU_VERSION 10000
+#define AVAREZHU_VERSION_STRING "1.0.0"
+
+/* A compiler that can warns where a reply is dropped. */
+#if defined(__cplusplus) && __cplusplus >= 201703L
+#define AVAREZHU_REPLY [[nodiscard]] uint32_t
+#elif !defined(__cplusplus) && defined(__STDC_VERSION__) && __STDC_VERSION__ >= 202311L
+#define AVAREZHU_REPLY [[nodiscard]] uint32_t
+#elif defined(__GNUC__)
+#define AVAREZHU_REPLY __attribute__((warn_unused_result)) uint32_t
+#else
+#define AVAREZHU_REPLY uint32_t
+#endif
+
 #ifdef __cplusplus
 extern "C" {
 #endif
@@ -47,7 +61,8 @@ enum avarezhu_reply {
      * Wrong: a box of 0 by 5, or of 2,049 by 1. Right: 1 by 5, or 2,048 by 1. */
     AVAREZHU_BAD_BOX = 1,
 
-    /* The lent slice is too short: 320 bytes for a gradient, 132 for stops, 4 for each pixel.
+    /* The lent slice is too short: 320 bytes for a gradient, 132 for stops, 4 for each pixel,
+     * AVAREZHU_PNG_SIZE(width, height) for a PNG file.
      * Wrong: 15 bytes for 4 by 1 pixels. Right: 16 or more. */
     AVAREZHU_NO_ROOM = 2,
 
@@ -71,6 +86,29 @@ enum avarezhu_reply {
     AVAREZHU_TOO_MANY_STOPS = 6
 };
 
+/* What a reply means, as a sentence for people. */
+static inline const char *avarezhu_message(uint32_t reply)
+{
+    switch (reply) {
+    case AVAREZHU_DONE:
+        return "Done.";
+    case AVAREZHU_BAD_BOX:
+        return "The width or the height is not from 1 to 2,048 pixels.";
+    case AVAREZHU_NO_ROOM:
+        return "The buffer is too short for the answer.";
+    case AVAREZHU_LONG_TEXT:
+        return "The text is longer than 1,024 bytes.";
+    case AVAREZHU_MALFORMED:
+        return "The text is not in the grammar, or a value handed in breaks its layout.";
+    case AVAREZHU_OUT_OF_RANGE:
+        return "A number is out of its range.";
+    case AVAREZHU_TOO_MANY_STOPS:
+        return "There are more than 16 color stops.";
+    default:
+        return "This is not a reply of the library.";
+    }
+}
+
 /* Sizes in bytes, and limits. */
 #define AVAREZHU_GRADIENT_SIZE 320 /* of a gradient */
 #define AVAREZHU_STOPS_SIZE 132    /* of placed stops */
@@ -81,51 +119,67 @@ enum avarezhu_reply {
 /* The bytes of a picture in a box that is not too large. */
 #define AVAREZHU_PIXELS_SIZE(width, height) ((size_t)4 * (width) * (height))
 
+/* The bytes of the PNG file of a picture in a box that is not too large. */
+#define AVAREZHU_PNG_SIZE(width, height) ((size_t)63 + ((size_t)6 + (size_t)3 * (width)) * (height))
+
 /* The stack in bytes that is enough for any call. tests/host/stack.c measures what each call uses. */
 #define AVAREZHU_STACK 819200
+
+/* The size to hand to pthread_attr_setstacksize for a thread that makes calls: a thread's stack also
+ * holds what the C library keeps for the thread, and the functions that lead to the call. */
+#define AVAREZHU_THREAD_STACK 1048576
 
 /*
  * Reading: text to gradient.
  * Leaves the gradient in 320 bytes. Replies: 0, 2, 3, 4, 5, 6.
  */
-uint32_t avarezhu_read(const uint8_t *text, size_t text_length,
-                       uint8_t *gradient, size_t gradient_length);
+AVAREZHU_REPLY avarezhu_read(const char *text, size_t text_length,
+                             uint8_t *gradient, size_t gradient_length);
 
 /*
  * Placing: where the color stops stand on the gradient line in a box of width by height pixels.
  * Leaves the stops in 132 bytes. Replies: 0 to 6; place_gradient never gives 3.
  * A gradient handed in has 320 bytes exactly.
  */
-uint32_t avarezhu_place(const uint8_t *text, size_t text_length,
-                        size_t width, size_t height,
-                        uint8_t *stops, size_t stops_length);
+AVAREZHU_REPLY avarezhu_place(const char *text, size_t text_length,
+                              size_t width, size_t height,
+                              uint8_t *stops, size_t stops_length);
 
-uint32_t avarezhu_place_gradient(const uint8_t *gradient, size_t gradient_length,
-                                 size_t width, size_t height,
-                                 uint8_t *stops, size_t stops_length);
+AVAREZHU_REPLY avarezhu_place_gradient(const uint8_t *gradient, size_t gradient_length,
+                                       size_t width, size_t height,
+                                       uint8_t *stops, size_t stops_length);
 
 /*
  * Drawing: the picture in a box of width by height pixels.
  * Leaves red, green, blue and alpha of each pixel, one byte each, the colors premultiplied by alpha;
  * rows from the top, pixels from the left, no gaps. Replies: 0 to 6; only avarezhu_draw gives 3.
  */
-uint32_t avarezhu_draw(const uint8_t *text, size_t text_length,
-                       size_t width, size_t height,
-                       uint8_t *pixels, size_t pixels_length);
+AVAREZHU_REPLY avarezhu_draw(const char *text, size_t text_length,
+                             size_t width, size_t height,
+                             uint8_t *pixels, size_t pixels_length);
 
-uint32_t avarezhu_draw_gradient(const uint8_t *gradient, size_t gradient_length,
-                                size_t width, size_t height,
-                                uint8_t *pixels, size_t pixels_length);
+AVAREZHU_REPLY avarezhu_draw_gradient(const uint8_t *gradient, size_t gradient_length,
+                                      size_t width, size_t height,
+                                      uint8_t *pixels, size_t pixels_length);
 
 /*
  * The same with stops of your own: direction or circle come from the gradient, colors and positions
  * from the stops. The gradient's own stops are judged but not drawn. Both slices are judged, and the
  * lower reply of the two is given.
  */
-uint32_t avarezhu_draw_stops(const uint8_t *gradient, size_t gradient_length,
-                             const uint8_t *stops, size_t stops_length,
-                             size_t width, size_t height,
-                             uint8_t *pixels, size_t pixels_length);
+AVAREZHU_REPLY avarezhu_draw_stops(const uint8_t *gradient, size_t gradient_length,
+                                   const uint8_t *stops, size_t stops_length,
+                                   size_t width, size_t height,
+                                   uint8_t *pixels, size_t pixels_length);
+
+/*
+ * A PNG file of the picture, for people to look at: the picture over a checkerboard of light grays,
+ * 8 bits each of red, green and blue. Leaves AVAREZHU_PNG_SIZE(width, height) bytes. Replies: 0 to 6,
+ * as for drawing; 2 is judged on the file's size.
+ */
+AVAREZHU_REPLY avarezhu_png(const char *text, size_t text_length,
+                            size_t width, size_t height,
+                            uint8_t *png, size_t png_length);
 
 /*
  * The two layouts as structs (docs/LAYOUT.md has the bytes). On a little-endian machine a struct has
@@ -137,7 +191,15 @@ uint32_t avarezhu_draw_stops(const uint8_t *gradient, size_t gradient_length,
  * To fill one yourself, start from zeros (memset): every field without a meaning, and every place
  * past the last stop, must be 0. Lengths are in thousandths of a px, percentages in thousandths of a
  * percent, angles in thousandths of a degree: 45.25deg is 45250.
+ *
+ * On a machine that is not little-endian they would be other bytes: there the header is refused, unless
+ * AVAREZHU_NO_STRUCTS is defined before it is included, which leaves the structs out.
  */
+#ifndef AVAREZHU_NO_STRUCTS
+
+#if defined(__BYTE_ORDER__) && defined(__ORDER_LITTLE_ENDIAN__) && __BYTE_ORDER__ != __ORDER_LITTLE_ENDIAN__
+#error "avarezhu.h: the structs have the bytes of their layouts on little-endian machines only; define AVAREZHU_NO_STRUCTS"
+#endif
 
 /* shape */
 enum { AVAREZHU_LINEAR = 0, AVAREZHU_CIRCLE = 1 };
@@ -227,6 +289,8 @@ AVAREZHU_CHECK(sizeof(avarezhu_placed_stop) == 8);
 AVAREZHU_CHECK(offsetof(avarezhu_stops, stops) == 4);
 #undef AVAREZHU_CHECK
 #endif
+
+#endif /* AVAREZHU_NO_STRUCTS */
 
 #ifdef __cplusplus
 }

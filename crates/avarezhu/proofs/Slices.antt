@@ -3,9 +3,10 @@
 use mathlib.Core.Path.{_≡_, refl, sym, ap, _∙_, subst}
 use mathlib.Core.List.{List, map}
 use Prim.Native.Nat.{ℕ, zero, suc}
-use lib.ListN.{length, replicate}
+use lib.ListN.{length}
 use Rattle.replies.specs.Replies.{lowest}
 use Rattle.replies.specs.Room.{roomReply}
+use Rattle.replies.specs.Handed.{Handed}
 use Rattle.replies.proofs.Laws.{lowest-zero, room-zero}
 use Rattle.gradient.specs.Check.{checkOf}
 use Rattle.line.specs.Line.{ruleOf}
@@ -16,8 +17,7 @@ use Rattle.placing.specs.declared.Placing.{Placing}
 use Rattle.placing.specs.Placed.{placedIn}
 use Rattle.placing.specs.Reply.{handedOut, placeReply, placeOf}
 use Rattle.color.specs.Stop.{stopOf}
-use Rattle.picture.specs.Picture.{padded, buffer}
-use Rattle.picture.proofs.Patches.{refused}
+use Rattle.picture.specs.Picture.{buffer}
 use Rattle.drawing.specs.Replies.{gradientReply, stopsReply}
 use Rattle.drawing.specs.Drawn.{Drawn}
 use Rattle.from_text.specs.Text.{placeTextReply, placeTextOf}
@@ -28,16 +28,9 @@ use Rattle.stopslayout.specs.declared.TakenStops.{TakenStops}
 use Rattle.stopslayout.specs.Words.{placedLayoutOf}
 use Rattle.stopslayout.specs.Taken.{takenStopsReply, takenStopsOf}
 use Rattle.stopslayout.proofs.Exact as stops-exact
-use Rattle.avarezhu.specs.Calls.{Handed, stopsSize, stopsRoom, placeCall, placeGradientCall, drawGradientCall, drawStopsCall, placedLayout, takenRule, gradientStops, listStops}
+use Rattle.avarezhu.specs.Calls.{stopsSize, stopsRoom, placeCall, placeGradientCall, drawGradientCall, drawStopsCall, placedLayout, takenRule, gradientStops, listStops}
 
 -- ---- what is handed out in a lent slice
-pub handed : {answer : ℕ} {layout before after : List ℕ} → answer ≡ 0 → after ≡ padded (length before) layout → Handed answer layout 0 before after
-handed a e = record { reply = sym a; bytes-left = e }
-
-pub not-handed : {answer : ℕ} {layout before after : List ℕ} (r : ℕ) → r ≡ answer → (r ≡ 0 → ⊥) → after ≡ replicate (length before) 0
-    → Handed answer layout r before after
-not-handed {layout = layout} {before = before} r a n e = record { reply = a; bytes-left = e ∙ refused r layout (length before) n }
-
 -- after a refusal it makes no difference which stops there would have been
 same-buffer : (r : ℕ) (list : PlacedStops) (n : ℕ) → buffer r (placedLayoutOf (handedOut r list)) n ≡ buffer r (placedLayoutOf list) n
 same-buffer zero list n = refl

@@ -1,11 +1,8 @@
--- What the calls of the C side answer, and what they leave in a slice that is lent. Document 01: "Where the C side gets a chart or stops in a lent
--- slice, 2 is also given when it is shorter than the one size docs/ states with its layout; it is all zeros after a refusal and zero past the
--- answer on 0."
+-- What the calls of the C side answer, and what they hand out. Document 01: "Where the C side gets a chart or stops in a lent slice, 2 is also
+-- given when it is shorter than the one size docs/ states with its layout".
 -- Assumes nothing.
-use mathlib.Core.Path.{_≡_}
 use mathlib.Core.List.{List, map}
 use Prim.Native.Nat.{ℕ}
-use lib.ListN.{length}
 use Rattle.replies.specs.Replies.{_orElse_, lowest}
 use Rattle.replies.specs.Room.{sizeReply, roomFor, roomReply}
 use Rattle.gradient.specs.declared.Gradient.{Gradient}
@@ -15,7 +12,6 @@ use Rattle.reader.specs.Reading.{readOf}
 use Rattle.stops.specs.Check.{placedOf}
 use Rattle.placing.specs.Placed.{placedIn, listed}
 use Rattle.color.specs.Stop.{Stop, stopOf}
-use Rattle.picture.specs.Picture.{buffer}
 use Rattle.layout.specs.Taken.{takenReply, takenOf}
 use Rattle.stopslayout.specs.Words.{placedLayoutOf}
 use Rattle.stopslayout.specs.Taken.{takenStopsReply, takenStopsOf}
@@ -26,11 +22,6 @@ gradientSize = 320
 
 abbrev pub stopsSize : ℕ
 stopsSize = 132
-
--- A call whose answer should be `answer` and which should hand out `layout`, in a slice that held `before`, has answered r and left `after`.
-pub record Handed (answer : ℕ) (layout : List ℕ) (r : ℕ) (before after : List ℕ) : Type 0 where
-  pub reply : r ≡ answer
-  pub bytes-left : after ≡ buffer r layout (length before)
 
 -- ---- the replies, with a lent slice of n bytes
 -- reading a text

@@ -4,13 +4,15 @@ use placing::Placing;
 use replies::DONE;
 ghost use Prim.Native.Nat.{_≤_};
 ghost use lib.ListN.{length};
+ghost use Rattle.replies.specs.Handed.{Handed};
 ghost use Rattle.reader.specs.Reading.{readOf};
 ghost use Rattle.from_text.specs.Text.{drawTextReply, textRule, textStops};
 ghost use Rattle.drawing.specs.Drawn.{Drawn};
+ghost use Rattle.to_png.specs.File.{pngReply, pngOf};
 ghost use Rattle.layout.specs.Words.{layoutOf};
 ghost use Rattle.layout.specs.Taken.{takenOf};
 ghost use Rattle.stopslayout.specs.Words.{placedLayoutOf};
-ghost use Rattle.avarezhu.specs.Calls.{Handed, readCall, placeCall, placeGradientCall, drawGradientCall, drawStopsCall, placedLayout, takenRule, gradientStops, listStops};
+ghost use Rattle.avarezhu.specs.Calls.{readCall, placeCall, placeGradientCall, drawGradientCall, drawStopsCall, placedLayout, takenRule, gradientStops, listStops};
 
 // ---- reading
 
@@ -137,4 +139,15 @@ pub extern "C" fn avarezhu_draw_stops(
         return replies::refuse(pixels, reply);
     }
     drawing::draw_stops(taken.gradient, list.stops, w, h, pixels)
+}
+
+// ---- a file to look at
+
+// Draws a text to a PNG file.
+#[no_mangle]
+pub extern "C" fn avarezhu_png(text: &[u8], w: usize, h: usize, png: &mut [u8]) -> u32
+    ensures { λ r. ⌜ Handed (pngReply (now (text .entry)) w h (length (now (png .entry)))) (pngOf (now (text .entry)) w h)
+        r (now (png .entry)) (now (png .exit)) ⌝ }
+{
+    to_png::draw_png(text, w, h, png)
 }

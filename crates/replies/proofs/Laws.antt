@@ -1,12 +1,17 @@
--- Laws for the crates above: the order of replies, and what the reply 0 says of a box and a lent slice.
+-- Laws for the crates above: the order of replies, what the reply 0 says of a box and a lent slice, and what is handed out in one.
 -- Assumes nothing.
-use mathlib.Core.Path.{_≡_, refl}
+use mathlib.Core.Path.{_≡_, refl, sym, _∙_}
 use mathlib.Core.Bool.{Bool, true, false, and-eq-true-iff}
+use mathlib.Core.List.{List}
 use Prim.Native.Nat.{ℕ, zero, suc, _*_, _≤_}
 use native.Mathlib.Omega.{arith}
+use lib.ListN.{length, replicate}
 use borrow.Author.Tests.{ltb-false, leb-true, not-false}
+use Rattle.picture.specs.Picture.{padded}
+use Rattle.picture.proofs.Patches.{refused}
 use Rattle.replies.specs.Replies.{given, _orElse_, lowest}
 use Rattle.replies.specs.Room.{boxIn, boxReply, roomFor, roomReply}
+use Rattle.replies.specs.Handed.{Handed}
 
 -- ---- no reply, the first one, the next one
 pub orElse-zero : (a b : ℕ) → a orElse b ≡ 0 → (a ≡ 0) × (b ≡ 0)
@@ -84,3 +89,11 @@ room-zero w h size n e =
 pub picture-zero : (w h n : ℕ) → roomReply w h n ≡ 0 → Room w h (4 * w * h) n
 unfolding roomReply
 picture-zero w h n e = room-zero w h (4 * w * h) n e
+
+-- ---- what is handed out in a lent slice
+pub handed : {answer : ℕ} {layout before after : List ℕ} → answer ≡ 0 → after ≡ padded (length before) layout → Handed answer layout 0 before after
+handed a e = record { reply = sym a; bytes-left = e }
+
+pub not-handed : {answer : ℕ} {layout before after : List ℕ} (r : ℕ) → r ≡ answer → (r ≡ 0 → ⊥) → after ≡ replicate (length before) 0
+    → Handed answer layout r before after
+not-handed {layout = layout} {before = before} r a n e = record { reply = a; bytes-left = e ∙ refused r layout (length before) n }

@@ -1,3 +1,4 @@
 pub mod Replies
 pub mod Room
+pub mod Handed
 pub mod Worked

@@ -1,7 +1,7 @@
 -- `avarezhu::avarezhu_place` meets its contract. Assumes nothing.
 use mathlib.Core.Path.{sym, _∙_}
-use Rattle.replies.proofs.Laws.{orElse-first, room-zero}
-use Rattle.avarezhu.proofs.Slices.{not-handed, handed-text}
+use Rattle.replies.proofs.Laws.{orElse-first, room-zero, not-handed}
+use Rattle.avarezhu.proofs.Slices.{handed-text}
 use borrow.Author.Needs.{needs}
 use Rattle.avarezhu.proofs.avarezhu_place.Statement.{statement}
 use Rattle.avarezhu.proofs.avarezhu_place.Tie as tie

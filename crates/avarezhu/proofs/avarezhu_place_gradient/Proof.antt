@@ -1,7 +1,7 @@
 -- `avarezhu::avarezhu_place_gradient` meets its contract. Assumes nothing.
 use mathlib.Core.Path.{sym, _∙_}
-use Rattle.replies.proofs.Laws.{orElse-first, orElse-next, room-zero}
-use Rattle.avarezhu.proofs.Slices.{not-handed, gradient-reply, handed-taken}
+use Rattle.replies.proofs.Laws.{orElse-first, orElse-next, room-zero, not-handed}
+use Rattle.avarezhu.proofs.Slices.{gradient-reply, handed-taken}
 use borrow.Author.Needs.{needs}
 use Rattle.avarezhu.proofs.avarezhu_place_gradient.Statement.{statement}
 use Rattle.avarezhu.proofs.avarezhu_place_gradient.Tie as tie

@@ -3,12 +3,11 @@ use mathlib.Core.Path.{sym, ap, _∙_}
 use denote.Ref.{now}
 use lib.ListN.{length}
 use borrow.Author.Tests.{ltb-false}
-use Rattle.replies.proofs.Laws.{orElse-first, orElse-next, given-zero}
+use Rattle.replies.proofs.Laws.{orElse-first, orElse-next, given-zero, handed, not-handed}
 use Rattle.reader.specs.declared.Reading.{Reading}
 use Rattle.picture.specs.Picture.{padded}
 use Rattle.layout.specs.Words.{layoutOf}
 use Rattle.avarezhu.specs.Calls.{readCall}
-use Rattle.avarezhu.proofs.Slices.{handed, not-handed}
 use borrow.Author.Needs.{needs}
 use Rattle.avarezhu.proofs.avarezhu_read.Statement.{statement}
 use Rattle.avarezhu.proofs.avarezhu_read.Tie as tie

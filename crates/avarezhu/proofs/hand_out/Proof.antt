@@ -1,6 +1,6 @@
 -- `avarezhu::hand_out` meets its contract. Assumes nothing.
 use mathlib.Core.Path.{sym, _∙_}
-use Rattle.avarezhu.proofs.Slices.{not-handed}
+use Rattle.replies.proofs.Laws.{not-handed}
 use borrow.Author.Needs.{needs}
 use Rattle.avarezhu.proofs.hand_out.Statement.{statement}
 use Rattle.avarezhu.proofs.hand_out.Tie as tie
