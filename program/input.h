@@ -1,0 +1,20 @@
+/* Reading files and standard input. */
+#ifndef INPUT_H
+#define INPUT_H
+
+#include <stddef.h>
+#include <sys/stat.h>
+
+/* A name that stands for standard input. NULL, for a name that is not given, does too. */
+int is_standard_input(const char *name);
+
+/* What messages call it. */
+const char *input_name(const char *name);
+
+/* Reads up to `room` bytes. What goes wrong is said, and 0 is the answer. */
+int read_input(const char *name, char *bytes, size_t room, size_t *length);
+
+/* Looks at what would be read, as stat does. */
+int stat_input(const char *name, struct stat *found);
+
+#endif
