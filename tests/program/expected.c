@@ -1,8 +1,8 @@
 /*
- * What render should write, found with the library and nothing of the program.
+ * What avarezhu should write, found with the library and nothing of the program.
  *
- *     expected raw  WIDTH HEIGHT <recipe >bytes    the bytes of avarezhu_draw
- *     expected over WIDTH HEIGHT <recipe >picture  the picture over the checkerboard, as a portable pixmap (P6)
+ *     expected raw  WIDTH HEIGHT <text >bytes    the bytes of avarezhu_draw
+ *     expected over WIDTH HEIGHT <text >picture  the picture over the checkerboard, as a portable pixmap (P6)
  */
 #include <math.h>
 #include <stdio.h>
@@ -30,7 +30,7 @@ static void over(const uint8_t *pixels, size_t w, size_t h)
 
 int main(int argc, char **argv)
 {
-    static uint8_t text[4096];
+    static char text[4096];
     if (argc != 4)
         return 2;
     size_t w = strtoul(argv[2], NULL, 10), h = strtoul(argv[3], NULL, 10);
