@@ -18,7 +18,8 @@ static uint32_t reply_to_parts(struct slice name, const char *before, struct sli
 
 uint32_t reply_at(const struct outline *o, size_t index, struct slice item)
 {
-    return index == 0 ? reply_to_parts(o->name, "(", item, ",red,red)") : reply_as_stop(o, item);
+    uint32_t reply = index == 0 ? reply_to_parts(o->name, "(", item, ",red,red)") : AVAREZHU_LONG_TEXT;
+    return reply == AVAREZHU_LONG_TEXT ? reply_as_stop(o, item) : reply;
 }
 
 uint32_t reply_as_stop(const struct outline *o, struct slice item)

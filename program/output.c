@@ -263,11 +263,12 @@ static int create_temporary(const char *path)
     return file;
 }
 
+/* A file system that knows no modes may say that this is not permitted. */
 static int set_mode(int file)
 {
     mode_t mask = umask(0);
     umask(mask);
-    return fchmod(file, 0666 & ~mask) == 0;
+    return fchmod(file, 0666 & ~mask) == 0 || errno == EPERM || errno == ENOTSUP;
 }
 
 /* Not every file system can sync every kind of file. */
