@@ -43,7 +43,7 @@ static const char help[] =
     "What happens to OUT: a file of that name is removed first, before RECIPE is read. The new one is written beside it\n"
     "and gets the name when all of it is there. So whatever goes wrong, no file of the name OUT is left. A link is\n"
     "followed; a device or a FIFO is written to and never replaced. A file that is RECIPE itself, or that holds the\n"
-    "text of a gradient, is left as it was.\n"
+    "text of a gradient, is left as it was, and so is every file where the command line is not understood.\n"
     "\n"
     "status: 0 done or PASS, 1 FAIL, 2 the text or the box was refused, 3 the command line or a file\n";
 
