@@ -1,0 +1,236 @@
+-- The definition of reading a text is the grammar. Assumes nothing.
+use mathlib.Core.Path.{_≡_, refl, sym, ap, _∙_}
+use mathlib.Core.List.{List, [], _∷_, _++_, append-assoc, append-nil}
+use mathlib.Core.Bool.{Bool, true, false, cond, not, _&&_, true≢false, false≢true}
+use mathlib.Core.Logic.{_↔_}
+use Prim.Native.Nat.{ℕ, _≤_, _<_}
+use Prim.Native.Char.{code}
+use native.Mathlib.Omega.{arith}
+use lib.Dec.{eqb, ltb}
+use lib.ListN.{length}
+use Rattle.replies.specs.Replies.{given, _orElse_}
+use Rattle.reader.specs.Reading.{writtenIn, writtenReply, grammarReply, readReply}
+use borrow.Author.Tests.{eqb-true, ne-eqb, le-ltb}
+use Rattle.text.specs.Text.{bytes, is, isNil, isSpace, run, past, lower, peekOf, restOf, keywordOf, wordFor, mapRead, Read, got, refused, _>>=_, _orRead_, wholeOf}
+use Rattle.text.proofs.Laws.{bind-got, bind-refused, or-first, or-second, keyword-letter, got-refused, run-past}
+use Rattle.gradient.specs.declared.Side.the-variants as S
+use Rattle.gradient.specs.declared.Direction.{Direction}
+use Rattle.gradient.specs.declared.Direction.the-variants as D
+use Rattle.gradient.specs.declared.Shape.{Shape}
+use Rattle.gradient.specs.declared.Shape.the-variants as Sh
+use Rattle.gradient.specs.declared.Stop.{Stop}
+use Rattle.tokens.specs.Number.{exact}
+use Rattle.tokens.specs.Color.{begins}
+use Rattle.directions.specs.Direction.{directionOf}
+use Rattle.circles.specs.Circle.{radialOf}
+use Rattle.stoplist.specs.Stops.{itemsOf, stopsOf, twoStopsOf}
+use Rattle.reader.specs.Text.{Written, written, first, others, withStops, byDirection, linearOf, circularOf, closesOf, bodyOf, kindOf, ofKind, functionOf, gradientOf}
+use Rattle.reader.specs.declared.Kind.{Kind}
+use Rattle.reader.specs.declared.Kind.the-variants as K
+use Rattle.stoplist.specs.View.{notComma}
+use Rattle.grammar.specs.Words.{Every, none, more, Space, Spaced, spaced, Word}
+use Rattle.grammar.specs.Stops.{TwoStops}
+use Rattle.grammar.specs.Directions.{DirectionText}
+use Rattle.grammar.specs.Circles.{RadialText}
+use Rattle.grammar.specs.Text.{LinearText, plain, directed, CircularText, circular, FunctionText, linear, radial, InGrammar, text}
+use Rattle.grammar.proofs.Laws.{Reads, some, nothing, Means, means, no, meant, reads-whole, whole-reads, nil-past, blank-past, run-every, reads-or, reads-for, space-past, first-high, reads-word, word-reads, word-other, every-append, space-plain}
+use Rattle.grammar.proofs.Stops.{Joined, one, many, joined, more-items, reads-two, two-read, stops-not}
+use Rattle.grammar.proofs.Directions.{reads-direction, direction-reads, direction-first, direction-plain}
+use Rattle.grammar.proofs.Circles.{reads-radial, radial-reads, radial-first, radial-plain}
+
+-- ---- sound
+with-stops : {l m : List ℕ} {is : List (List ℕ)} (R : List ℕ → Written → Type 0) (s : Shape) → ((ss : List Stop) → TwoStops m ss → R l (written s ss)) → Joined m is → Means R l (withStops exact s is)
+unfolding withStops
+with-stops {l} {m} R s f j = go (reads-two j)
+  where
+    go : {r : Read (List Stop)} → Means TwoStops m r → Means R l (r >>= λ ss _. got (written s ss) [])
+    go (means {a = ss} h) = means (f ss h)
+    go no = no
+
+-- no items are no stops
+no-stops : (s : Shape) → refused ≡ withStops exact s []
+unfolding withStops twoStopsOf stopsOf
+no-stops s = refl
+
+reads-linear : (l : List ℕ) → Means LinearText l (linearOf exact l)
+unfolding linearOf
+reads-linear l = go (joined l)
+  where
+    alone : {l : List ℕ} {is : List (List ℕ)} (r : Read Direction) → Joined l is → others is ≡ [] → Means LinearText l (byDirection exact r is)
+    alone {is} (got d k) j e = rw (e, ← no-stops (Sh.Linear d)) no
+    alone refused j e = with-stops LinearText (Sh.Linear (D.Side S.Bottom)) (λ ss h. plain h) j
+
+    ahead : {i m : List ℕ} {is : List (List ℕ)} {r : Read Direction} → Joined m is → Means (Spaced DirectionText) i r → Means LinearText (i ++ (code "," ∷ m)) (byDirection exact r (i ∷ is))
+    ahead j (means {a = d} h) = with-stops LinearText (Sh.Linear d) (λ ss q. directed h q) j
+    ahead j no = with-stops LinearText (Sh.Linear (D.Side S.Bottom)) (λ ss h. plain h) (many j)
+
+    go : {l : List ℕ} {is : List (List ℕ)} → Joined l is → Means LinearText l (byDirection exact (wholeOf (directionOf exact) (first is)) is)
+    go (one {i}) = alone (wholeOf (directionOf exact) i) one refl
+    go (many {i} j) = ahead j (reads-whole DirectionText (directionOf exact) reads-direction i)
+
+reads-circular : (l : List ℕ) → Means CircularText l (circularOf exact l)
+unfolding circularOf
+reads-circular l = go (joined l)
+  where
+    ahead : {i m : List ℕ} {is : List (List ℕ)} {r : Read Shape} → Joined m is → Means (Spaced RadialText) i r → Means CircularText (i ++ (code "," ∷ m)) (r >>= λ s _. withStops exact s is)
+    ahead j (means {a = s} h) = with-stops CircularText s (λ ss q. circular h q) j
+    ahead j no = no
+
+    alone : (l : List ℕ) (r : Read Shape) → Means CircularText l (r >>= λ s _. withStops exact s [])
+    alone l (got s k) = rw (← no-stops s) no
+    alone l refused = no
+
+    go : {l : List ℕ} {is : List (List ℕ)} → Joined l is → Means CircularText l (wholeOf (radialOf exact) (first is) >>= λ s _. withStops exact s (others is))
+    go (one {i}) = alone i (wholeOf (radialOf exact) i)
+    go (many {i} j) = ahead j (reads-whole RadialText (radialOf exact) reads-radial i)
+
+-- the closing bracket
+data Closed : List ℕ → Read (List ℕ) → Type 0 where
+  closed : {b e : List ℕ} → Space e → Closed (b ++ (code ")" ∷ e)) (got b [])
+  open′ : {l : List ℕ} → Closed l refused
+
+closed-more : {l : List ℕ} {r : Read (List ℕ)} (b : ℕ) → Closed l r → Closed (b ∷ l) (mapRead (λ body. b ∷ body) r)
+closed-more b (closed h) = closed h
+closed-more b open′ = open′
+
+reads-body : (l : List ℕ) → Closed l (bodyOf l)
+unfolding bodyOf closesOf peekOf restOf
+reads-body [] = open′
+reads-body (b ∷ l) = go (is ")" b) refl (isNil (past isSpace l)) refl (reads-body l)
+  where
+    go : (t : Bool) → is ")" b ≡ t → (n : Bool) → isNil (past isSpace l) ≡ n → Closed l (bodyOf l) → Closed (b ∷ l) (cond (t && n) (got [] []) (mapRead (λ body. b ∷ body) (bodyOf l)))
+    go true e true q h = rw (eqb-true b (code ")") e) (closed (nil-past l q))
+    go true e false q h = closed-more b h
+    go false e n q h = closed-more b h
+
+-- the function: its name, its body and its closing bracket
+data KindText : List ℕ → Kind → Type 0 where
+  linear-name : {l : List ℕ} → Word "linear-gradient(" l → KindText l K.Linear
+  radial-name : {l : List ℕ} → Word "radial-gradient(" l → KindText l K.Radial
+
+reads-kind : (l : List ℕ) → Reads KindText l (kindOf l)
+unfolding kindOf
+reads-kind l = reads-or (reads-for KindText "linear-gradient(" K.Linear refl (λ _ h. linear-name h) l) (reads-for KindText "radial-gradient(" K.Radial refl (λ _ h. radial-name h) l)
+
+data Called : List ℕ → Written → Type 0 where
+  called : {f e : List ℕ} {g : Written} → FunctionText f g → Space e → Called (f ++ (code ")" ∷ e)) g
+
+reads-function : (l : List ℕ) → Means Called l (functionOf exact l)
+unfolding functionOf
+reads-function l = go (reads-kind l)
+  where
+    line : {w b t : List ℕ} {r : Read Written} → Word "linear-gradient(" w → Space t → Means LinearText b r → Means Called (w ++ (b ++ (code ")" ∷ t))) r
+    line {w} {b} {t} q s (means {a = g} h) = means {a = g} (rw (← append-assoc w b (code ")" ∷ t)) (called (linear q h) s))
+    line q s no = no
+
+    ring : {w b t : List ℕ} {r : Read Written} → Word "radial-gradient(" w → Space t → Means CircularText b r → Means Called (w ++ (b ++ (code ")" ∷ t))) r
+    ring {w} {b} {t} q s (means {a = g} h) = means {a = g} (rw (← append-assoc w b (code ")" ∷ t)) (called (radial q h) s))
+    ring q s no = no
+
+    body : {w k : List ℕ} {kind : Kind} {r : Read (List ℕ)} → KindText w kind → Closed k r → Means Called (w ++ k) (r >>= λ body _. ofKind exact kind body)
+    body (linear-name q) (closed {b} s) = line q s (reads-linear b)
+    body (radial-name q) (closed {b} s) = ring q s (reads-circular b)
+    body q open′ = no
+
+    go : {r : Read Kind} → Reads KindText l r → Means Called l (r >>= λ kind k. bodyOf k >>= λ body _. ofKind exact kind body)
+    go (some {k} w h e) = rw e at (body h (reads-body k))
+    go nothing = no
+
+-- what the definition of reading gets is in the grammar
+pub sound : (l : List ℕ) {g : Written} {k : List ℕ} → got g k ≡ gradientOf exact l → InGrammar l g
+sound l {g} e = rw (run-past isSpace l) at (go (past isSpace l) (meant e (reads-function (past isSpace l))))
+  where
+    go : (m : List ℕ) → Called m g → InGrammar (run isSpace l ++ m) g
+    go m (called f s) = text (run-every isSpace l) f s
+
+-- ---- complete
+not-nil : (b e : List ℕ) → isNil (past isSpace (b ++ (code ")" ∷ e))) ≡ false
+unfolding past isSpace
+not-nil [] e = refl
+not-nil (c ∷ b) e = go (isSpace c) (not-nil b e)
+  where
+    go : (t : Bool) → isNil (past isSpace (b ++ (code ")" ∷ e))) ≡ false → isNil (cond t (past isSpace (b ++ (code ")" ∷ e))) (c ∷ (b ++ (code ")" ∷ e)))) ≡ false
+    go true h = h
+    go false h = refl
+
+body-reads : {e : List ℕ} (b : List ℕ) → Space e → got b [] ≡ bodyOf (b ++ (code ")" ∷ e))
+unfolding bodyOf closesOf peekOf restOf
+body-reads [] h = rw (blank-past h)
+body-reads {e} (c ∷ b) h = rw (not-nil b e, ← body-reads b h) (go (is ")" c))
+  where
+    go : (t : Bool) → got (c ∷ b) [] ≡ cond (t && false) (got [] []) (got (c ∷ b) [])
+    go true = refl
+    go false = refl
+
+linear-reads : {l : List ℕ} {g : Written} → LinearText l g → got g [] ≡ linearOf exact l
+unfolding linearOf withStops
+linear-reads (plain {l} h) = rw (← stops-not h, ← two-read h)
+linear-reads (directed {m} d h) = rw (more-items m (direction-item-plain d), ← direction-item d, ← two-read h)
+  where
+    direction-item : {l : List ℕ} {d : Direction} → Spaced DirectionText l d → got d [] ≡ wholeOf (directionOf exact) l
+    direction-item (spaced {l} {e} a h b) = whole-reads (directionOf exact) l a b (direction-first e h) (direction-reads b h)
+
+    direction-item-plain : {l : List ℕ} {d : Direction} → Spaced DirectionText l d → Every notComma l
+    direction-item-plain (spaced a h b) = every-append (space-plain a) (every-append (direction-plain h) (space-plain b))
+
+circular-reads : {l : List ℕ} {g : Written} → CircularText l g → got g [] ≡ circularOf exact l
+unfolding circularOf withStops
+circular-reads (circular {m} c h) = rw (more-items m (item-plain c), ← item c, ← two-read h)
+  where
+    item : {l : List ℕ} {s : Shape} → Spaced RadialText l s → got s [] ≡ wholeOf (radialOf exact) l
+    item (spaced {l} {e} a h b) = whole-reads (radialOf exact) l a b (radial-first e h) (radial-reads b h)
+
+    item-plain : {l : List ℕ} {s : Shape} → Spaced RadialText l s → Every notComma l
+    item-plain (spaced a h b) = every-append (space-plain a) (every-append (radial-plain h) (space-plain b))
+
+function-reads : {l e : List ℕ} {g : Written} → Space e → FunctionText l g → got g [] ≡ functionOf exact (l ++ (code ")" ∷ e))
+unfolding functionOf kindOf begins
+function-reads {e} s (linear {l} {m} w h) =
+    rw (append-assoc l m (code ")" ∷ e)) (bind-got _ (or-first _ (bind-got _ (word-reads (m ++ (code ")" ∷ e)) w) refl)) (bind-got _ (body-reads m s) (linear-reads h)))
+function-reads {e} s (radial {l} {m} w h) =
+    rw (append-assoc l m (code ")" ∷ e))
+    (bind-got _ (or-second (bind-refused _ (word-other (bytes "radial-gradient(") (bytes "linear-gradient(") (l ++ (m ++ (code ")" ∷ e))) refl (word-reads (m ++ (code ")" ∷ e)) w))) (bind-got _ (word-reads (m ++ (code ")" ∷ e)) w) refl))
+    (bind-got _ (body-reads m s) (circular-reads h)))
+
+function-first : {l : List ℕ} {g : Written} (k : List ℕ) → FunctionText l g → 57 < peekOf (l ++ k)
+function-first k (linear {l} {m} w h) = rw (append-assoc l m k) (first-high _ 108 (keyword-letter _ _ (l ++ (m ++ k)) (word-reads (m ++ k) w) .0) (omega arith))
+function-first k (radial {l} {m} w h) = rw (append-assoc l m k) (first-high _ 114 (keyword-letter _ _ (l ++ (m ++ k)) (word-reads (m ++ k) w) .0) (omega arith))
+
+-- the definition of reading gets what is in the grammar
+pub complete : {l : List ℕ} {g : Written} → InGrammar l g → got g [] ≡ gradientOf exact l
+complete (text {l} {e} s f t) = let h = function-first (code ")" ∷ e) f in rw (space-past (l ++ (code ")" ∷ e)) (omega arith) s) (function-reads t f)
+
+-- a text is in the grammar, with its gradient, exactly when reading gets that gradient and nothing is left
+pub grammar : (l : List ℕ) (g : Written) → (gradientOf exact l ≡ got g []) ↔ InGrammar l g
+grammar l g = (λ e. sound l (sym e), λ h. sym (complete h))
+
+-- no text writes two gradients
+pub one-gradient : {l : List ℕ} {g g′ : Written} → InGrammar l g → InGrammar l g′ → g ≡ g′
+one-gradient h h′ = let e = complete h in let e′ = complete h′ in cc
+
+-- a text is refused exactly when it is in the grammar with no gradient
+pub refused-not : (l : List ℕ) → gradientOf exact l ≡ refused → (g : Written) → InGrammar l g → ⊥
+refused-not l e g h = got-refused (complete h ∙ e)
+
+pub not-refused : (l : List ℕ) → ((g : Written) → InGrammar l g → ⊥) → gradientOf exact l ≡ refused
+not-refused l f = go (gradientOf exact l) refl
+  where
+    go : (r : Read Written) → r ≡ gradientOf exact l → r ≡ refused
+    go (got g k) e = absurd (f g (sound l e))
+    go refused e = refl
+
+-- "4: text is not in the grammar": of a text that is not too long
+written-not : (w : Written) → writtenReply w ≡ 4 → ⊥
+written-not w e = go (not (writtenIn w)) (ltb 16 (length (w .stops))) e
+  where
+    go : (a b : Bool) → (given a 5 orElse given b 6) ≡ 4 → ⊥
+    go true b q = omega arith
+    go false true q = omega arith
+    go false false q = omega arith
+
+pub reply-4 : (l : List ℕ) → length l ≤ 1024 → (readReply l ≡ 4) ↔ ((g : Written) → InGrammar l g → ⊥)
+unfolding readReply
+reply-4 l h = (λ e g i. written-not g (ap grammarReply (complete i) ∙ short e), λ f. rw (le-ltb 1024 (length l) h, not-refused l f))
+  where
+    short : readReply l ≡ 4 → grammarReply (gradientOf exact l) ≡ 4
+    short e = rw (le-ltb 1024 (length l) h) at e
