@@ -1,13 +1,13 @@
 -- The definition of reading directions is the grammar's. Assumes nothing.
-use mathlib.Core.Path.{_≡_, refl, sym, ap, _∙_}
+use mathlib.Core.Path.{_≡_, refl}
 use mathlib.Core.List.{List, [], _∷_, _++_, append-assoc, append-nil}
-use mathlib.Core.Bool.{Bool, true, false, cond}
 use Prim.Native.Nat.{ℕ, _≤_, _<_}
-use Prim.Native.String.{String}
 use native.Mathlib.Omega.{arith}
 use lib.IntN.{ℤ}
-use Rattle.text.specs.Text.{bytes, lower, peekOf, keywordOf, wordFor, Read, got, refused, _>>=_, _orRead_, afterGap, wholeOf}
-use Rattle.text.proofs.Laws.{bind-got, bind-refused, or-first, or-second, keyword-letter}
+use Rattle.text.specs.Text.{bytes, lower, peekOf, keywordOf, Read, got, refused, _>>=_, _orRead_, afterGap}
+use Rattle.text.proofs.Laws.{bind-got, bind-refused, or-first, or-second}
+use Rattle.gradient.specs.declared.Side.{Side}
+use Rattle.gradient.specs.declared.Side.the-variants as S
 use Rattle.gradient.specs.declared.Vertical.{Vertical}
 use Rattle.gradient.specs.declared.Vertical.the-variants as Ver
 use Rattle.gradient.specs.declared.Horizontal.{Horizontal}
@@ -17,40 +17,79 @@ use Rattle.gradient.specs.declared.Direction.the-variants as D
 use Rattle.tokens.specs.declared.Unit.{Unit}
 use Rattle.tokens.specs.declared.Unit.the-variants as U
 use Rattle.tokens.specs.declared.Number.{Number}
-use Rattle.tokens.specs.Number.{number, numberOf, exact}
+use Rattle.tokens.specs.Number.{number, exact}
 use Rattle.tokens.specs.Color.{begins}
 use Rattle.directions.specs.Direction.{sideAcross, sideDown, horizontalOf, verticalOf, horizontalFirst, verticalFirst, toOf, asAngle, angleOf, directionOf}
 use Rattle.stoplist.specs.View.{notComma}
-use Rattle.grammar.specs.Words.{Every, none, more, Word, Gap, Space, After, after, Spaced, spaced}
-use Rattle.grammar.specs.Numbers.{NumberText}
-use Rattle.grammar.specs.Directions.{Across, left, right, Down, top, bottom, Toward, across, down, across-down, down-across, DirectionText, to, angle}
-use Rattle.grammar.proofs.Laws.{Reads, some, nothing, reads-or, reads-as, reads-map, reads-then, reads-after, reads-word, reads-for, reads-whole, gap-low, space-ends, after-reads, after-blank, whole-reads, word-reads, word-other, word-first, first-high, Means, means, no, every-append, space-plain, gap-plain, word-plain, both}
-use Rattle.grammar.proofs.Numbers.{reads-number, number-reads, number-first, no-number, number-plain, number-none}
+use Rattle.grammar.specs.Words.{Every, Gap, Space, Word, OneOf, one}
+use Rattle.grammar.specs.Directions.{SideWord, HorizontalWord, VerticalWord, DirectionText}
+use Rattle.grammar.proofs.Laws.{Is, Reads, some, nothing, reads-or, reads-as, reads-map, reads-then, After, after, reads-after, reads-word, reads-for, space-ends, after-reads, after-blank, word-reads, unlike, word-first, first-high, word-high, every-append, gap-plain, word-plain}
+use Rattle.grammar.proofs.Numbers.{Numbered, NumberText, reads-number, number-reads, number-first, number-plain}
+
+-- ---- a direction as reading takes it apart: `to`, and what follows it
+data Toward : List ℕ → Direction → Type 0 where
+  side : {l : List ℕ} {s : Side} → OneOf SideWord l s → Toward l (D.Side s)
+  horizontal-first : {l g m : List ℕ} {a : Horizontal} {v : Vertical} → OneOf HorizontalWord l a → Gap g → OneOf VerticalWord m v → Toward (l ++ (g ++ m)) (D.Corner v a)
+  vertical-first : {l g m : List ℕ} {a : Horizontal} {v : Vertical} → OneOf VerticalWord l v → Gap g → OneOf HorizontalWord m a → Toward (l ++ (g ++ m)) (D.Corner v a)
+
+data Parts : List ℕ → Direction → Type 0 where
+  to : {l g m : List ℕ} {d : Direction} → Word "to" l → Gap g → Toward m d → Parts (l ++ (g ++ m)) d
+  angle : {l : List ℕ} {z : ℤ} → NumberText U.Angle l z → Parts l (D.Angle z)
+
+together : {l : List ℕ} {d : Direction} → Parts l d → DirectionText l d
+together (to w g (Toward.side s)) = DirectionText.side w g s
+together (to w g (Toward.horizontal-first a h v)) = DirectionText.horizontal-first w g a h v
+together (to w g (Toward.vertical-first v h a)) = DirectionText.vertical-first w g v h a
+together (angle (NumberText.angle n)) = DirectionText.angle n
+
+apart : {l : List ℕ} {d : Direction} → DirectionText l d → Parts l d
+apart (DirectionText.side w g s) = to w g (Toward.side s)
+apart (DirectionText.horizontal-first w g a h v) = to w g (Toward.horizontal-first a h v)
+apart (DirectionText.vertical-first w g v h a) = to w g (Toward.vertical-first v h a)
+apart (DirectionText.angle n) = angle (NumberText.angle n)
 
 -- ---- sound
-pub reads-across : (l : List ℕ) → Reads Across l (horizontalOf l)
+pub reads-horizontal : (l : List ℕ) → Reads (OneOf HorizontalWord) l (horizontalOf l)
 unfolding horizontalOf
-reads-across l = reads-or (reads-for Across "left" Hor.Left refl (λ _ h. left h) l) (reads-for Across "right" Hor.Right refl (λ _ h. right h) l)
+reads-horizontal l =
+    reads-or (reads-for (OneOf HorizontalWord) "left" Hor.Left refl (λ _ w. one HorizontalWord.left w) l)
+    (reads-for (OneOf HorizontalWord) "right" Hor.Right refl (λ _ w. one HorizontalWord.right w) l)
 
-pub reads-down : (l : List ℕ) → Reads Down l (verticalOf l)
+pub reads-vertical : (l : List ℕ) → Reads (OneOf VerticalWord) l (verticalOf l)
 unfolding verticalOf
-reads-down l = reads-or (reads-for Down "top" Ver.Top refl (λ _ h. top h) l) (reads-for Down "bottom" Ver.Bottom refl (λ _ h. bottom h) l)
+reads-vertical l =
+    reads-or (reads-for (OneOf VerticalWord) "top" Ver.Top refl (λ _ w. one VerticalWord.top w) l)
+    (reads-for (OneOf VerticalWord) "bottom" Ver.Bottom refl (λ _ w. one VerticalWord.bottom w) l)
+
+horizontal-side : {l : List ℕ} {a : Horizontal} → OneOf HorizontalWord l a → OneOf SideWord l (sideAcross a)
+horizontal-side (one HorizontalWord.left w) = one SideWord.left w
+horizontal-side (one HorizontalWord.right w) = one SideWord.right w
+
+vertical-side : {l : List ℕ} {v : Vertical} → OneOf VerticalWord l v → OneOf SideWord l (sideDown v)
+vertical-side (one VerticalWord.top w) = one SideWord.top w
+vertical-side (one VerticalWord.bottom w) = one SideWord.bottom w
 
 reads-toward : (l : List ℕ) → Reads Toward l (horizontalFirst l orRead verticalFirst l)
 unfolding horizontalFirst verticalFirst
 reads-toward l =
     reads-or
     (reads-then Toward _ (λ a w h m.
-    reads-or (reads-map (λ x d. Toward (w ++ x) d) (λ v. D.Corner v a) (λ v x q. across-down h q) (reads-after Down verticalOf reads-down m))
-    (some {a = D.Side (sideAcross a)} [] (rw (append-nil w) (across h)) refl)) (reads-across l))
+    reads-or (reads-map (λ x d. Toward (w ++ x) d) (λ v. D.Corner v a) (λ v x q. across h q) (reads-after (OneOf VerticalWord) verticalOf reads-vertical m))
+    (some {a = D.Side (sideAcross a)} [] (rw (append-nil w) (Toward.side (horizontal-side h))) refl)) (reads-horizontal l))
     (reads-then Toward _ (λ v w h m.
-    reads-or (reads-map (λ x d. Toward (w ++ x) d) (λ a. D.Corner v a) (λ a x q. down-across h q) (reads-after Across horizontalOf reads-across m))
-    (some {a = D.Side (sideDown v)} [] (rw (append-nil w) (down h)) refl)) (reads-down l))
+    reads-or (reads-map (λ x d. Toward (w ++ x) d) (λ a. D.Corner v a) (λ a x q. down h q) (reads-after (OneOf HorizontalWord) horizontalOf reads-horizontal m))
+    (some {a = D.Side (sideDown v)} [] (rw (append-nil w) (Toward.side (vertical-side h))) refl)) (reads-vertical l))
+  where
+    across : {w x : List ℕ} {a : Horizontal} {v : Vertical} → OneOf HorizontalWord w a → After (OneOf VerticalWord) x v → Toward (w ++ x) (D.Corner v a)
+    across h (after g q) = Toward.horizontal-first h g q
 
-as-angle : {l : List ℕ} {r : Read Number} → Reads NumberText l r → Reads DirectionText l (r >>= λ n k. asAngle (n .value) (n .unit) k)
+    down : {w x : List ℕ} {a : Horizontal} {v : Vertical} → OneOf VerticalWord w v → After (OneOf HorizontalWord) x a → Toward (w ++ x) (D.Corner v a)
+    down h (after g q) = Toward.vertical-first h g q
+
+as-angle : {l : List ℕ} {r : Read Number} → Reads Numbered l r → Reads Parts l (r >>= λ n k. asAngle (n .value) (n .unit) k)
 as-angle {l} (some {a = n} {k} w h e) = go (n .unit) (n .value) h
   where
-    go : (u : Unit) (z : ℤ) → NumberText w (number z u) → Reads DirectionText l (asAngle z u k)
+    go : (u : Unit) (z : ℤ) → NumberText u w z → Reads Parts l (asAngle z u k)
     go U.Length z q = nothing
     go U.Percentage z q = nothing
     go U.Angle z q = some w (angle q) e
@@ -59,98 +98,122 @@ as-angle nothing = nothing
 pub reads-direction : (l : List ℕ) → Reads DirectionText l (directionOf exact l)
 unfolding directionOf toOf angleOf
 reads-direction l =
-    reads-or
-    (reads-then DirectionText _ (λ _ w h m. reads-as (λ v d. DirectionText (w ++ v) d) (λ d v q. to h q) (reads-after Toward (λ m. horizontalFirst m orRead verticalFirst m) reads-toward m))
+    reads-as DirectionText (λ d w h. together h)
+    (reads-or
+    (reads-then Parts _ (λ _ w h m. reads-as (λ v d. Parts (w ++ v) d) (λ d v q. then-toward h q) (reads-after Toward (λ m. horizontalFirst m orRead verticalFirst m) reads-toward m))
     (reads-word "to" refl l))
-    (as-angle (reads-number l))
+    (as-angle (reads-number l)))
+  where
+    then-toward : {w v : List ℕ} {d : Direction} → Word "to" w → After Toward v d → Parts (w ++ v) d
+    then-toward h (after g q) = to h g q
 
 -- ---- complete
-pub across-reads : {w : List ℕ} {a : Horizontal} (k : List ℕ) → Across w a → got a k ≡ horizontalOf (w ++ k)
+pub horizontal-reads : {w : List ℕ} {a : Horizontal} (k : List ℕ) → OneOf HorizontalWord w a → got a k ≡ horizontalOf (w ++ k)
 unfolding horizontalOf begins
-across-reads k (left w) = or-first _ (bind-got _ (word-reads k w) refl)
-across-reads k (right {l} w) = or-second (bind-refused _ (word-other (bytes "right") (bytes "left") (l ++ k) refl (word-reads k w))) (bind-got _ (word-reads k w) refl)
+horizontal-reads k (one HorizontalWord.left w) = or-first _ (bind-got _ (word-reads k refl w) refl)
+horizontal-reads k (one HorizontalWord.right w) = or-second (bind-refused _ (unlike "left" k refl w)) (bind-got _ (word-reads k refl w) refl)
 
-pub down-reads : {w : List ℕ} {v : Vertical} (k : List ℕ) → Down w v → got v k ≡ verticalOf (w ++ k)
+pub vertical-reads : {w : List ℕ} {v : Vertical} (k : List ℕ) → OneOf VerticalWord w v → got v k ≡ verticalOf (w ++ k)
 unfolding verticalOf begins
-down-reads k (top w) = or-first _ (bind-got _ (word-reads k w) refl)
-down-reads k (bottom {l} w) = or-second (bind-refused _ (word-other (bytes "bottom") (bytes "top") (l ++ k) refl (word-reads k w))) (bind-got _ (word-reads k w) refl)
+vertical-reads k (one VerticalWord.top w) = or-first _ (bind-got _ (word-reads k refl w) refl)
+vertical-reads k (one VerticalWord.bottom w) = or-second (bind-refused _ (unlike "top" k refl w)) (bind-got _ (word-reads k refl w) refl)
 
 -- a vertical word is not a horizontal one
-pub down-not : {w : List ℕ} {v : Vertical} (k : List ℕ) → Down w v → refused ≡ horizontalOf (w ++ k)
+pub vertical-not : {w : List ℕ} {v : Vertical} (k : List ℕ) → OneOf VerticalWord w v → refused ≡ horizontalOf (w ++ k)
 unfolding horizontalOf begins
-down-not k (top {l} w) =
-    or-second (bind-refused _ (word-other (bytes "top") (bytes "left") (l ++ k) refl (word-reads k w))) (bind-refused _ (word-other (bytes "top") (bytes "right") (l ++ k) refl (word-reads k w)))
-down-not k (bottom {l} w) =
-    or-second (bind-refused _ (word-other (bytes "bottom") (bytes "left") (l ++ k) refl (word-reads k w))) (bind-refused _ (word-other (bytes "bottom") (bytes "right") (l ++ k) refl (word-reads k w)))
+vertical-not k (one VerticalWord.top w) = or-second (bind-refused _ (unlike "left" k refl w)) (bind-refused _ (unlike "right" k refl w))
+vertical-not k (one VerticalWord.bottom w) = or-second (bind-refused _ (unlike "left" k refl w)) (bind-refused _ (unlike "right" k refl w))
 
-pub across-first : {w : List ℕ} {a : Horizontal} (k : List ℕ) → Across w a → 57 < peekOf (w ++ k)
-across-first k (left {l} w) = first-high _ 108 (keyword-letter _ _ (l ++ k) (word-reads k w) .0) (omega arith)
-across-first k (right {l} w) = first-high _ 114 (keyword-letter _ _ (l ++ k) (word-reads k w) .0) (omega arith)
+pub horizontal-high : {w : List ℕ} {a : Horizontal} (k : List ℕ) → OneOf HorizontalWord w a → 57 < peekOf (w ++ k)
+horizontal-high k (one HorizontalWord.left w) = word-high k refl w
+horizontal-high k (one HorizontalWord.right w) = word-high k refl w
 
-pub down-first : {w : List ℕ} {v : Vertical} (k : List ℕ) → Down w v → 57 < peekOf (w ++ k)
-down-first k (top {l} w) = first-high _ 116 (keyword-letter _ _ (l ++ k) (word-reads k w) .0) (omega arith)
-down-first k (bottom {l} w) = first-high _ 98 (keyword-letter _ _ (l ++ k) (word-reads k w) .0) (omega arith)
+pub vertical-high : {w : List ℕ} {v : Vertical} (k : List ℕ) → OneOf VerticalWord w v → 57 < peekOf (w ++ k)
+vertical-high k (one VerticalWord.top w) = word-high k refl w
+vertical-high k (one VerticalWord.bottom w) = word-high k refl w
 
-no-across : refused ≡ horizontalOf []
+no-horizontal : refused ≡ horizontalOf []
 unfolding horizontalOf keywordOf peekOf lower
-no-across = refl
+no-horizontal = refl
 
-no-down : refused ≡ verticalOf []
+no-vertical : refused ≡ verticalOf []
 unfolding verticalOf keywordOf peekOf lower
-no-down = refl
+no-vertical = refl
 
-toward-reads : {w k : List ℕ} {d : Direction} → Space k → Toward w d → got d k ≡ (horizontalFirst (w ++ k) orRead verticalFirst (w ++ k))
-unfolding horizontalFirst verticalFirst
-toward-reads {k} h (across a) = or-first _ (bind-got _ (across-reads k a) (or-second (bind-refused _ (after-blank verticalOf h no-down)) refl))
-toward-reads {k} h (down v) = or-second (bind-refused _ (down-not k v)) (bind-got _ (down-reads k v) (or-second (bind-refused _ (after-blank horizontalOf h no-across)) refl))
-toward-reads {k} h (across-down {l} a (after {g} {l = m} s v)) =
-    let f = down-first k v in
-    rw (append-assoc l (g ++ m) k, append-assoc g m k)
-    (or-first _ (bind-got _ (across-reads (g ++ (m ++ k)) a) (or-first _ (bind-got _ (after-reads verticalOf (m ++ k) k s (omega arith) (down-reads k v)) refl))))
-toward-reads {k} h (down-across {l} v (after {g} {l = m} s a)) =
-    let f = across-first k a in
-    rw (append-assoc l (g ++ m) k, append-assoc g m k)
-    (or-second (bind-refused _ (down-not (g ++ (m ++ k)) v))
-    (bind-got _ (down-reads (g ++ (m ++ k)) v) (or-first _ (bind-got _ (after-reads horizontalOf (m ++ k) k s (omega arith) (across-reads k a)) refl))))
+module _ {k : List ℕ} (h : Space k) where
+  horizontal-alone : {w : List ℕ} {a : Horizontal} → OneOf HorizontalWord w a → got (D.Side (sideAcross a)) k ≡ (horizontalFirst (w ++ k) orRead verticalFirst (w ++ k))
+  unfolding horizontalFirst verticalFirst
+  horizontal-alone a = or-first _ (bind-got _ (horizontal-reads k a) (or-second (bind-refused _ (after-blank verticalOf h no-vertical)) refl))
+
+  vertical-alone : {w : List ℕ} {v : Vertical} → OneOf VerticalWord w v → got (D.Side (sideDown v)) k ≡ (horizontalFirst (w ++ k) orRead verticalFirst (w ++ k))
+  unfolding horizontalFirst verticalFirst
+  vertical-alone v =
+      or-second (bind-refused _ (vertical-not k v)) (bind-got _ (vertical-reads k v) (or-second (bind-refused _ (after-blank horizontalOf h no-horizontal)) refl))
+
+  toward-reads : {w : List ℕ} {d : Direction} → Toward w d → got d k ≡ (horizontalFirst (w ++ k) orRead verticalFirst (w ++ k))
+  unfolding horizontalFirst verticalFirst
+  toward-reads (Toward.side (one SideWord.left w)) = horizontal-alone (one HorizontalWord.left w)
+  toward-reads (Toward.side (one SideWord.right w)) = horizontal-alone (one HorizontalWord.right w)
+  toward-reads (Toward.side (one SideWord.top w)) = vertical-alone (one VerticalWord.top w)
+  toward-reads (Toward.side (one SideWord.bottom w)) = vertical-alone (one VerticalWord.bottom w)
+  toward-reads (Toward.horizontal-first {l} {g} {m} a s v) =
+      let f = vertical-high k v in
+      rw (append-assoc l (g ++ m) k, append-assoc g m k)
+      (or-first _ (bind-got _ (horizontal-reads (g ++ (m ++ k)) a) (or-first _ (bind-got _ (after-reads verticalOf (m ++ k) k s (omega arith) (vertical-reads k v)) refl))))
+  toward-reads (Toward.vertical-first {l} {g} {m} v s a) =
+      let f = horizontal-high k a in
+      rw (append-assoc l (g ++ m) k, append-assoc g m k)
+      (or-second (bind-refused _ (vertical-not (g ++ (m ++ k)) v))
+      (bind-got _ (vertical-reads (g ++ (m ++ k)) v) (or-first _ (bind-got _ (after-reads horizontalOf (m ++ k) k s (omega arith) (horizontal-reads k a)) refl))))
 
 toward-first : {w : List ℕ} {d : Direction} (k : List ℕ) → Toward w d → 57 < peekOf (w ++ k)
-toward-first k (across a) = across-first k a
-toward-first k (down v) = down-first k v
-toward-first k (across-down {l} {m} a q) = rw (append-assoc l m k) (across-first (m ++ k) a)
-toward-first k (down-across {l} {m} v q) = rw (append-assoc l m k) (down-first (m ++ k) v)
+toward-first k (Toward.side (one SideWord.left w)) = word-high k refl w
+toward-first k (Toward.side (one SideWord.right w)) = word-high k refl w
+toward-first k (Toward.side (one SideWord.top w)) = word-high k refl w
+toward-first k (Toward.side (one SideWord.bottom w)) = word-high k refl w
+toward-first k (Toward.horizontal-first {l} {g} {m} a s v) = rw (append-assoc l (g ++ m) k) (horizontal-high ((g ++ m) ++ k) a)
+toward-first k (Toward.vertical-first {l} {g} {m} v s a) = rw (append-assoc l (g ++ m) k) (vertical-high ((g ++ m) ++ k) v)
 
-pub direction-reads : {w k : List ℕ} {d : Direction} → Space k → DirectionText w d → got d k ≡ directionOf exact (w ++ k)
+parts-read : {w k : List ℕ} {d : Direction} → Space k → Parts w d → got d k ≡ directionOf exact (w ++ k)
 unfolding directionOf toOf angleOf
-direction-reads {k} h (to {l} t (after {g} {l = m} s q)) =
+parts-read {k} h (to {l} {g} {m} t s q) =
     let f = toward-first k q in
     rw (append-assoc l (g ++ m) k, append-assoc g m k)
-    (or-first _ (bind-got _ (word-reads (g ++ (m ++ k)) t) (after-reads (λ m. horizontalFirst m orRead verticalFirst m) (m ++ k) k s (omega arith) (toward-reads h q))))
-direction-reads {k} h (angle {l} n) =
+    (or-first _ (bind-got _ (word-reads (g ++ (m ++ k)) refl t) (after-reads (λ m. horizontalFirst m orRead verticalFirst m) (m ++ k) k s (omega arith) (toward-reads h q))))
+parts-read {k} h (angle {l} n) =
     or-second (bind-refused _ (word-first _ _ (l ++ k) (λ e. let f = number-first k n in let z = first-high _ 116 e (omega arith) in omega arith)))
     (bind-got _ (number-reads k (space-ends h) n) refl)
 
+pub direction-reads : {w k : List ℕ} {d : Direction} → Space k → DirectionText w d → got d k ≡ directionOf exact (w ++ k)
+direction-reads h d = parts-read h (apart d)
+
+parts-first : {w : List ℕ} {d : Direction} (k : List ℕ) → Parts w d → 32 < peekOf (w ++ k)
+parts-first k (to {l} {g} {m} t s q) = rw (append-assoc l (g ++ m) k) (let f = word-high ((g ++ m) ++ k) refl t in omega arith)
+parts-first k (angle n) = let f = number-first k n in omega arith
+
 pub direction-first : {w : List ℕ} {d : Direction} (k : List ℕ) → DirectionText w d → 32 < peekOf (w ++ k)
-direction-first k (to {l} {m} t q) = rw (append-assoc l m k) (let f = first-high _ 116 (keyword-letter _ _ (l ++ (m ++ k)) (word-reads (m ++ k) t) .0) (omega arith) in omega arith)
-direction-first k (angle n) = let f = number-first k n in omega arith
+direction-first k d = parts-first k (apart d)
 
 -- ---- no comma
-pub across-plain : {w : List ℕ} {a : Horizontal} → Across w a → Every notComma w
-unfolding notComma
-across-plain (left w) = word-plain _ _ refl (w .letters)
-across-plain (right w) = word-plain _ _ refl (w .letters)
+pub horizontal-plain : {w : List ℕ} {a : Horizontal} → OneOf HorizontalWord w a → Every (Is notComma) w
+horizontal-plain (one HorizontalWord.left w) = word-plain refl w
+horizontal-plain (one HorizontalWord.right w) = word-plain refl w
 
-pub down-plain : {w : List ℕ} {v : Vertical} → Down w v → Every notComma w
-unfolding notComma
-down-plain (top w) = word-plain _ _ refl (w .letters)
-down-plain (bottom w) = word-plain _ _ refl (w .letters)
+pub vertical-plain : {w : List ℕ} {v : Vertical} → OneOf VerticalWord w v → Every (Is notComma) w
+vertical-plain (one VerticalWord.top w) = word-plain refl w
+vertical-plain (one VerticalWord.bottom w) = word-plain refl w
 
-toward-plain : {w : List ℕ} {d : Direction} → Toward w d → Every notComma w
-toward-plain (across a) = across-plain a
-toward-plain (down v) = down-plain v
-toward-plain (across-down a (after g v)) = every-append (across-plain a) (every-append (gap-plain g) (down-plain v))
-toward-plain (down-across v (after g a)) = every-append (down-plain v) (every-append (gap-plain g) (across-plain a))
+toward-plain : {w : List ℕ} {d : Direction} → Toward w d → Every (Is notComma) w
+toward-plain (Toward.side (one SideWord.left w)) = word-plain refl w
+toward-plain (Toward.side (one SideWord.right w)) = word-plain refl w
+toward-plain (Toward.side (one SideWord.top w)) = word-plain refl w
+toward-plain (Toward.side (one SideWord.bottom w)) = word-plain refl w
+toward-plain (Toward.horizontal-first a g v) = every-append (horizontal-plain a) (every-append (gap-plain g) (vertical-plain v))
+toward-plain (Toward.vertical-first v g a) = every-append (vertical-plain v) (every-append (gap-plain g) (horizontal-plain a))
 
-pub direction-plain : {w : List ℕ} {d : Direction} → DirectionText w d → Every notComma w
-unfolding notComma
-direction-plain (to {l} t (after g q)) = every-append {l = l} (word-plain _ l refl (t .letters)) (every-append (gap-plain g) (toward-plain q))
-direction-plain (angle n) = number-plain n
+pub direction-plain : {w : List ℕ} {d : Direction} → DirectionText w d → Every (Is notComma) w
+direction-plain d = go (apart d)
+  where
+    go : {w : List ℕ} {d : Direction} → Parts w d → Every (Is notComma) w
+    go (to w g q) = every-append (word-plain refl w) (every-append (gap-plain g) (toward-plain q))
+    go (angle n) = number-plain n

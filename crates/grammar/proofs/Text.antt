@@ -1,18 +1,14 @@
 -- The definition of reading a text is the grammar. Assumes nothing.
 use mathlib.Core.Path.{_≡_, refl, sym, ap, _∙_}
-use mathlib.Core.List.{List, [], _∷_, _++_, append-assoc, append-nil}
-use mathlib.Core.Bool.{Bool, true, false, cond, not, _&&_, true≢false, false≢true}
+use mathlib.Core.List.{List, [], _∷_, _++_, append-assoc}
+use mathlib.Core.Bool.{Bool, true, false, cond, _&&_}
 use mathlib.Core.Logic.{_↔_}
 use Prim.Native.Nat.{ℕ, _≤_, _<_}
 use Prim.Native.Char.{code}
 use native.Mathlib.Omega.{arith}
-use lib.Dec.{eqb, ltb}
-use lib.ListN.{length}
-use Rattle.replies.specs.Replies.{given, _orElse_}
-use Rattle.reader.specs.Reading.{writtenIn, writtenReply, grammarReply, readReply}
-use borrow.Author.Tests.{eqb-true, ne-eqb, le-ltb}
+use borrow.Author.Tests.{eqb-true}
 use Rattle.text.specs.Text.{bytes, is, isNil, isSpace, run, past, lower, peekOf, restOf, keywordOf, wordFor, mapRead, Read, got, refused, _>>=_, _orRead_, wholeOf}
-use Rattle.text.proofs.Laws.{bind-got, bind-refused, or-first, or-second, keyword-letter, got-refused, run-past}
+use Rattle.text.proofs.Laws.{bind-got, bind-refused, or-first, or-second, got-refused, run-past}
 use Rattle.gradient.specs.declared.Side.the-variants as S
 use Rattle.gradient.specs.declared.Direction.{Direction}
 use Rattle.gradient.specs.declared.Direction.the-variants as D
@@ -24,26 +20,26 @@ use Rattle.tokens.specs.Color.{begins}
 use Rattle.directions.specs.Direction.{directionOf}
 use Rattle.circles.specs.Circle.{radialOf}
 use Rattle.stoplist.specs.Stops.{itemsOf, stopsOf, twoStopsOf}
+use Rattle.stoplist.specs.View.{notComma}
 use Rattle.reader.specs.Text.{Written, written, first, others, withStops, byDirection, linearOf, circularOf, closesOf, bodyOf, kindOf, ofKind, functionOf, gradientOf}
 use Rattle.reader.specs.declared.Kind.{Kind}
 use Rattle.reader.specs.declared.Kind.the-variants as K
-use Rattle.stoplist.specs.View.{notComma}
-use Rattle.grammar.specs.Words.{Every, none, more, Space, Spaced, spaced, Word}
-use Rattle.grammar.specs.Stops.{TwoStops}
+use Rattle.grammar.specs.Words.{Every, Space, Spaced, spaced, Word}
+use Rattle.grammar.specs.Stops.{StopsText}
 use Rattle.grammar.specs.Directions.{DirectionText}
-use Rattle.grammar.specs.Circles.{RadialText}
-use Rattle.grammar.specs.Text.{LinearText, plain, directed, CircularText, circular, FunctionText, linear, radial, InGrammar, text}
-use Rattle.grammar.proofs.Laws.{Reads, some, nothing, Means, means, no, meant, reads-whole, whole-reads, nil-past, blank-past, run-every, reads-or, reads-for, space-past, first-high, reads-word, word-reads, word-other, every-append, space-plain}
-use Rattle.grammar.proofs.Stops.{Joined, one, many, joined, more-items, reads-two, two-read, stops-not}
+use Rattle.grammar.specs.Circles.{ShapeText}
+use Rattle.grammar.specs.Text.{LinearText, plain, directed, RadialText, circular, FunctionText, linear, radial, InGrammar}
+use Rattle.grammar.proofs.Laws.{Is, Reads, some, nothing, Means, means, no, meant, reads-whole, whole-reads, nil-past, blank-past, run-space, reads-or, reads-for, space-past, word-reads, unlike, word-high, every-append, space-plain}
+use Rattle.grammar.proofs.Stops.{Joined, one, many, joined, more-items, reads-stops, stops-read, stops-not}
 use Rattle.grammar.proofs.Directions.{reads-direction, direction-reads, direction-first, direction-plain}
-use Rattle.grammar.proofs.Circles.{reads-radial, radial-reads, radial-first, radial-plain}
+use Rattle.grammar.proofs.Circles.{reads-shape, shape-reads, shape-first, shape-plain}
 
 -- ---- sound
-with-stops : {l m : List ℕ} {is : List (List ℕ)} (R : List ℕ → Written → Type 0) (s : Shape) → ((ss : List Stop) → TwoStops m ss → R l (written s ss)) → Joined m is → Means R l (withStops exact s is)
+with-stops : {l m : List ℕ} {is : List (List ℕ)} (R : List ℕ → Written → Type 0) (s : Shape) → ((ss : List Stop) → StopsText m ss → R l (written s ss)) → Joined m is → Means R l (withStops exact s is)
 unfolding withStops
-with-stops {l} {m} R s f j = go (reads-two j)
+with-stops {l} {m} R s f j = go (reads-stops j)
   where
-    go : {r : Read (List Stop)} → Means TwoStops m r → Means R l (r >>= λ ss _. got (written s ss) [])
+    go : {r : Read (List Stop)} → Means StopsText m r → Means R l (r >>= λ ss _. got (written s ss) [])
     go (means {a = ss} h) = means (f ss h)
     go no = no
 
@@ -68,21 +64,21 @@ reads-linear l = go (joined l)
     go (one {i}) = alone (wholeOf (directionOf exact) i) one refl
     go (many {i} j) = ahead j (reads-whole DirectionText (directionOf exact) reads-direction i)
 
-reads-circular : (l : List ℕ) → Means CircularText l (circularOf exact l)
+reads-circular : (l : List ℕ) → Means RadialText l (circularOf exact l)
 unfolding circularOf
 reads-circular l = go (joined l)
   where
-    ahead : {i m : List ℕ} {is : List (List ℕ)} {r : Read Shape} → Joined m is → Means (Spaced RadialText) i r → Means CircularText (i ++ (code "," ∷ m)) (r >>= λ s _. withStops exact s is)
-    ahead j (means {a = s} h) = with-stops CircularText s (λ ss q. circular h q) j
+    ahead : {i m : List ℕ} {is : List (List ℕ)} {r : Read Shape} → Joined m is → Means (Spaced ShapeText) i r → Means RadialText (i ++ (code "," ∷ m)) (r >>= λ s _. withStops exact s is)
+    ahead j (means {a = s} h) = with-stops RadialText s (λ ss q. circular h q) j
     ahead j no = no
 
-    alone : (l : List ℕ) (r : Read Shape) → Means CircularText l (r >>= λ s _. withStops exact s [])
+    alone : (l : List ℕ) (r : Read Shape) → Means RadialText l (r >>= λ s _. withStops exact s [])
     alone l (got s k) = rw (← no-stops s) no
     alone l refused = no
 
-    go : {l : List ℕ} {is : List (List ℕ)} → Joined l is → Means CircularText l (wholeOf (radialOf exact) (first is) >>= λ s _. withStops exact s (others is))
+    go : {l : List ℕ} {is : List (List ℕ)} → Joined l is → Means RadialText l (wholeOf (radialOf exact) (first is) >>= λ s _. withStops exact s (others is))
     go (one {i}) = alone i (wholeOf (radialOf exact) i)
-    go (many {i} j) = ahead j (reads-whole RadialText (radialOf exact) reads-radial i)
+    go (many {i} j) = ahead j (reads-whole ShapeText (radialOf exact) reads-shape i)
 
 -- the closing bracket
 data Closed : List ℕ → Read (List ℕ) → Type 0 where
@@ -113,18 +109,21 @@ unfolding kindOf
 reads-kind l = reads-or (reads-for KindText "linear-gradient(" K.Linear refl (λ _ h. linear-name h) l) (reads-for KindText "radial-gradient(" K.Radial refl (λ _ h. radial-name h) l)
 
 data Called : List ℕ → Written → Type 0 where
-  called : {f e : List ℕ} {g : Written} → FunctionText f g → Space e → Called (f ++ (code ")" ∷ e)) g
+  called : {f e : List ℕ} {g : Written} → FunctionText f g → Space e → Called (f ++ e) g
 
 reads-function : (l : List ℕ) → Means Called l (functionOf exact l)
 unfolding functionOf
 reads-function l = go (reads-kind l)
   where
+    closing : (w b t : List ℕ) → (w ++ (b ++ (code ")" ∷ []))) ++ t ≡ w ++ (b ++ (code ")" ∷ t))
+    closing w b t = rw (append-assoc w (b ++ (code ")" ∷ [])) t, append-assoc b (code ")" ∷ []) t)
+
     line : {w b t : List ℕ} {r : Read Written} → Word "linear-gradient(" w → Space t → Means LinearText b r → Means Called (w ++ (b ++ (code ")" ∷ t))) r
-    line {w} {b} {t} q s (means {a = g} h) = means {a = g} (rw (← append-assoc w b (code ")" ∷ t)) (called (linear q h) s))
+    line {w} {b} {t} q s (means {a = g} h) = means {a = g} (rw (closing w b t) at (called (linear q h) s))
     line q s no = no
 
-    ring : {w b t : List ℕ} {r : Read Written} → Word "radial-gradient(" w → Space t → Means CircularText b r → Means Called (w ++ (b ++ (code ")" ∷ t))) r
-    ring {w} {b} {t} q s (means {a = g} h) = means {a = g} (rw (← append-assoc w b (code ")" ∷ t)) (called (radial q h) s))
+    ring : {w b t : List ℕ} {r : Read Written} → Word "radial-gradient(" w → Space t → Means RadialText b r → Means Called (w ++ (b ++ (code ")" ∷ t))) r
+    ring {w} {b} {t} q s (means {a = g} h) = means {a = g} (rw (closing w b t) at (called (radial q h) s))
     ring q s no = no
 
     body : {w k : List ℕ} {kind : Kind} {r : Read (List ℕ)} → KindText w kind → Closed k r → Means Called (w ++ k) (r >>= λ body _. ofKind exact kind body)
@@ -141,7 +140,7 @@ pub sound : (l : List ℕ) {g : Written} {k : List ℕ} → got g k ≡ gradient
 sound l {g} e = rw (run-past isSpace l) at (go (past isSpace l) (meant e (reads-function (past isSpace l))))
   where
     go : (m : List ℕ) → Called m g → InGrammar (run isSpace l ++ m) g
-    go m (called f s) = text (run-every isSpace l) f s
+    go m (called f s) = spaced (run-space l) f s
 
 -- ---- complete
 not-nil : (b e : List ℕ) → isNil (past isSpace (b ++ (code ")" ∷ e))) ≡ false
@@ -164,41 +163,42 @@ body-reads {e} (c ∷ b) h = rw (not-nil b e, ← body-reads b h) (go (is ")" c)
 
 linear-reads : {l : List ℕ} {g : Written} → LinearText l g → got g [] ≡ linearOf exact l
 unfolding linearOf withStops
-linear-reads (plain {l} h) = rw (← stops-not h, ← two-read h)
-linear-reads (directed {m} d h) = rw (more-items m (direction-item-plain d), ← direction-item d, ← two-read h)
+linear-reads (plain {l} h) = rw (← stops-not h, ← stops-read h)
+linear-reads (directed {m} d h) = rw (more-items m (direction-item-plain d), ← direction-item d, ← stops-read h)
   where
     direction-item : {l : List ℕ} {d : Direction} → Spaced DirectionText l d → got d [] ≡ wholeOf (directionOf exact) l
     direction-item (spaced {l} {e} a h b) = whole-reads (directionOf exact) l a b (direction-first e h) (direction-reads b h)
 
-    direction-item-plain : {l : List ℕ} {d : Direction} → Spaced DirectionText l d → Every notComma l
+    direction-item-plain : {l : List ℕ} {d : Direction} → Spaced DirectionText l d → Every (Is notComma) l
     direction-item-plain (spaced a h b) = every-append (space-plain a) (every-append (direction-plain h) (space-plain b))
 
-circular-reads : {l : List ℕ} {g : Written} → CircularText l g → got g [] ≡ circularOf exact l
+circular-reads : {l : List ℕ} {g : Written} → RadialText l g → got g [] ≡ circularOf exact l
 unfolding circularOf withStops
-circular-reads (circular {m} c h) = rw (more-items m (item-plain c), ← item c, ← two-read h)
+circular-reads (circular {m} c h) = rw (more-items m (item-plain c), ← item c, ← stops-read h)
   where
-    item : {l : List ℕ} {s : Shape} → Spaced RadialText l s → got s [] ≡ wholeOf (radialOf exact) l
-    item (spaced {l} {e} a h b) = whole-reads (radialOf exact) l a b (radial-first e h) (radial-reads b h)
+    item : {l : List ℕ} {s : Shape} → Spaced ShapeText l s → got s [] ≡ wholeOf (radialOf exact) l
+    item (spaced {l} {e} a h b) = whole-reads (radialOf exact) l a b (shape-first e h) (shape-reads b h)
 
-    item-plain : {l : List ℕ} {s : Shape} → Spaced RadialText l s → Every notComma l
-    item-plain (spaced a h b) = every-append (space-plain a) (every-append (radial-plain h) (space-plain b))
+    item-plain : {l : List ℕ} {s : Shape} → Spaced ShapeText l s → Every (Is notComma) l
+    item-plain (spaced a h b) = every-append (space-plain a) (every-append (shape-plain h) (space-plain b))
 
-function-reads : {l e : List ℕ} {g : Written} → Space e → FunctionText l g → got g [] ≡ functionOf exact (l ++ (code ")" ∷ e))
+function-reads : {l e : List ℕ} {g : Written} → Space e → FunctionText l g → got g [] ≡ functionOf exact (l ++ e)
 unfolding functionOf kindOf begins
 function-reads {e} s (linear {l} {m} w h) =
-    rw (append-assoc l m (code ")" ∷ e)) (bind-got _ (or-first _ (bind-got _ (word-reads (m ++ (code ")" ∷ e)) w) refl)) (bind-got _ (body-reads m s) (linear-reads h)))
+    rw (append-assoc l (m ++ (code ")" ∷ [])) e, append-assoc m (code ")" ∷ []) e)
+    (bind-got _ (or-first _ (bind-got _ (word-reads (m ++ (code ")" ∷ e)) refl w) refl)) (bind-got _ (body-reads m s) (linear-reads h)))
 function-reads {e} s (radial {l} {m} w h) =
-    rw (append-assoc l m (code ")" ∷ e))
-    (bind-got _ (or-second (bind-refused _ (word-other (bytes "radial-gradient(") (bytes "linear-gradient(") (l ++ (m ++ (code ")" ∷ e))) refl (word-reads (m ++ (code ")" ∷ e)) w))) (bind-got _ (word-reads (m ++ (code ")" ∷ e)) w) refl))
+    rw (append-assoc l (m ++ (code ")" ∷ [])) e, append-assoc m (code ")" ∷ []) e)
+    (bind-got _ (or-second (bind-refused _ (unlike "linear-gradient(" (m ++ (code ")" ∷ e)) refl w)) (bind-got _ (word-reads (m ++ (code ")" ∷ e)) refl w) refl))
     (bind-got _ (body-reads m s) (circular-reads h)))
 
 function-first : {l : List ℕ} {g : Written} (k : List ℕ) → FunctionText l g → 57 < peekOf (l ++ k)
-function-first k (linear {l} {m} w h) = rw (append-assoc l m k) (first-high _ 108 (keyword-letter _ _ (l ++ (m ++ k)) (word-reads (m ++ k) w) .0) (omega arith))
-function-first k (radial {l} {m} w h) = rw (append-assoc l m k) (first-high _ 114 (keyword-letter _ _ (l ++ (m ++ k)) (word-reads (m ++ k) w) .0) (omega arith))
+function-first k (linear {l} {m} w h) = rw (append-assoc l (m ++ (code ")" ∷ [])) k) (word-high ((m ++ (code ")" ∷ [])) ++ k) refl w)
+function-first k (radial {l} {m} w h) = rw (append-assoc l (m ++ (code ")" ∷ [])) k) (word-high ((m ++ (code ")" ∷ [])) ++ k) refl w)
 
 -- the definition of reading gets what is in the grammar
 pub complete : {l : List ℕ} {g : Written} → InGrammar l g → got g [] ≡ gradientOf exact l
-complete (text {l} {e} s f t) = let h = function-first (code ")" ∷ e) f in rw (space-past (l ++ (code ")" ∷ e)) (omega arith) s) (function-reads t f)
+complete (spaced {l} {e} s f t) = let h = function-first e f in rw (space-past (l ++ e) (omega arith) s) (function-reads t f)
 
 -- a text is in the grammar, with its gradient, exactly when reading gets that gradient and nothing is left
 pub grammar : (l : List ℕ) (g : Written) → (gradientOf exact l ≡ got g []) ↔ InGrammar l g
@@ -218,19 +218,3 @@ not-refused l f = go (gradientOf exact l) refl
     go : (r : Read Written) → r ≡ gradientOf exact l → r ≡ refused
     go (got g k) e = absurd (f g (sound l e))
     go refused e = refl
-
--- "4: text is not in the grammar": of a text that is not too long
-written-not : (w : Written) → writtenReply w ≡ 4 → ⊥
-written-not w e = go (not (writtenIn w)) (ltb 16 (length (w .stops))) e
-  where
-    go : (a b : Bool) → (given a 5 orElse given b 6) ≡ 4 → ⊥
-    go true b q = omega arith
-    go false true q = omega arith
-    go false false q = omega arith
-
-pub reply-4 : (l : List ℕ) → length l ≤ 1024 → (readReply l ≡ 4) ↔ ((g : Written) → InGrammar l g → ⊥)
-unfolding readReply
-reply-4 l h = (λ e g i. written-not g (ap grammarReply (complete i) ∙ short e), λ f. rw (le-ltb 1024 (length l) h, not-refused l f))
-  where
-    short : readReply l ≡ 4 → grammarReply (gradientOf exact l) ≡ 4
-    short e = rw (le-ltb 1024 (length l) h) at e

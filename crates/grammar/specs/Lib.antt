@@ -1,7 +1,8 @@
 pub mod Words
 pub mod Numbers
 pub mod Colors
-pub mod Stops
 pub mod Directions
+pub mod Positions
 pub mod Circles
+pub mod Stops
 pub mod Text
