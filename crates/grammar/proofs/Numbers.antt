@@ -181,7 +181,7 @@ whole-digits {d} w s = let e : decimal 0 d * 1000 ≡ 1000 * decimal 0 d = omega
 
 point-digits : {d f : List ℕ} → Every (Is isDigit) d → Every (Is isDigit) f → 1 ≤ count f → count f ≤ 3
     → Magnitude (d ++ (code "." ∷ f)) (decimal 0 d * 1000 + decimal 0 f * 10 ^ (3 - count f))
-point-digits {d} w v s t = let e : decimal 0 d * 1000 ≡ 1000 * decimal 0 d = omega arith in rw e (point (are-digits w) (are-digits v) s t)
+point-digits {d} w v s t = let e : decimal 0 d * 1000 ≡ 1000 * decimal 0 d = omega arith in rw e (point (are-digits w) (are-digits v) s (omega arith))
 
 reads-fraction : (d l : List ℕ) → Every (Is isDigit) d → Reads (λ w n. Magnitude (d ++ (code "." ∷ w)) (decimal 0 d * 1000 + n)) l (fractionOf l)
 unfolding fractionOf thousandths
