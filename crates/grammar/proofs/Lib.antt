@@ -7,3 +7,4 @@ pub mod Circles
 pub mod Stops
 pub mod Text
 pub mod Answers
+pub mod Worked
