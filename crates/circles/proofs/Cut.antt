@@ -19,7 +19,8 @@ use Rattle.text.specs.Text.{bytes, got, _orRead_, mapRead, keywordOf, afterGap}
 use Rattle.text.proofs.Laws.{map-bind, map-inside, map-or, bind-map}
 use Rattle.tokens.specs.declared.Unit.{Unit}
 use Rattle.tokens.specs.declared.Unit.the-variants as U
-use Rattle.tokens.specs.Number.{exact, cut}
+use Rattle.tokens.specs.Number.{exact}
+use Rattle.tokens.specs.Cut.{cut}
 use Rattle.tokens.proofs.Cut.{length-cut, radius-cut, percentage-cut, length-kept, radius-kept, percentage-kept}
 use Rattle.directions.specs.Direction.{horizontalOf, verticalOf}
 use Rattle.text.proofs.Whole.{map-gap}

@@ -14,7 +14,7 @@ use tokens::Unit;
 ghost use mathlib.Core.Path.{_≡_};
 ghost use lib.ListN.{drop};
 ghost use Rattle.text.specs.Text.{afterGap};
-ghost use Rattle.tokens.specs.Number.{cut};
+ghost use Rattle.tokens.specs.Cut.{cut};
 ghost use Rattle.circles.specs.Position.{coordinateOf, partOf, acrossAt, downAt, asAcross, asDown, isKeyword, onePart, paired, twoParts, secondOf, positionOf};
 ghost use Rattle.circles.specs.Circle.{extentOf, lengthOf, sizeOf, circleFirst, sizeFirst, circleOf, atOf, radialOf};
 ghost use Rattle.circles.specs.View.{viewCoordinate, viewPart, viewPlace, viewExtent, viewSize, viewShape};

@@ -13,7 +13,8 @@ use Rattle.text.proofs.Laws.{map-bind, map-inside, map-or}
 use Rattle.text.proofs.Whole.{map-gap}
 use Rattle.tokens.specs.declared.Unit.{Unit}
 use Rattle.tokens.specs.declared.Unit.the-variants as U
-use Rattle.tokens.specs.Number.{numberOf, exact, cut, cutNumber}
+use Rattle.tokens.specs.Number.{numberOf, exact}
+use Rattle.tokens.specs.Cut.{cut, cutNumber}
 use Rattle.tokens.proofs.Cut.{number-cut, angle-cut, angle-kept}
 use Rattle.directions.specs.Direction.{horizontalOf, verticalOf, horizontalFirst, verticalFirst, toOf, asAngle, angleOf, directionOf}
 

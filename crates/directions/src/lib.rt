@@ -10,7 +10,7 @@ use tokens::Unit;
 ghost use mathlib.Core.Path.{_≡_};
 ghost use lib.ListN.{drop};
 ghost use Rattle.text.specs.Text.{afterGap};
-ghost use Rattle.tokens.specs.Number.{cut};
+ghost use Rattle.tokens.specs.Cut.{cut};
 ghost use Rattle.directions.specs.Direction.{sideAcross, sideDown, horizontalOf, verticalOf, horizontalFirst, verticalFirst, toOf, angleOf, directionOf};
 ghost use Rattle.directions.specs.View.{viewHorizontal, viewVertical, viewDirection};
 

@@ -17,7 +17,8 @@ use Rattle.gradient.specs.Range.{shapeIn, stopIn}
 use Rattle.gradient.specs.Blank.{blankStop}
 use Rattle.gradient.specs.declared.Stop.{Stop}
 use Rattle.reader.specs.declared.Reading.{Reading}
-use Rattle.reader.specs.Text.{Written, gradientOf}
+use Rattle.reader.specs.Written.{Written}
+use Rattle.reader.specs.Text.{gradientOf}
 use Rattle.reader.specs.Reading as R
 use Rattle.reader.specs.Reading.{grammarReply, gradientIn, answered, readReply, readOf}
 use Rattle.grammar.specs.Text.{InGrammar}

@@ -21,7 +21,8 @@ use Rattle.directions.specs.Direction.{directionOf}
 use Rattle.circles.specs.Circle.{radialOf}
 use Rattle.stoplist.specs.Stops.{itemsOf, stopsOf, twoStopsOf}
 use Rattle.stoplist.specs.View.{notComma}
-use Rattle.reader.specs.Text.{Written, written, first, others, withStops, byDirection, linearOf, circularOf, closesOf, bodyOf, kindOf, ofKind, functionOf, gradientOf}
+use Rattle.reader.specs.Written.{Written, written}
+use Rattle.reader.specs.Text.{first, others, withStops, byDirection, linearOf, circularOf, closesOf, bodyOf, kindOf, ofKind, functionOf, gradientOf}
 use Rattle.reader.specs.declared.Kind.{Kind}
 use Rattle.reader.specs.declared.Kind.the-variants as K
 use Rattle.grammar.specs.Words.{Every, Space, Spaced, spaced, Word}

@@ -8,7 +8,8 @@ use Rattle.directions.specs.Direction.{horizontalOf, verticalOf, horizontalFirs
 use Rattle.circles.specs.Position.{coordinateOf, partOf, secondOf, positionOf}
 use Rattle.circles.specs.Circle.{extentOf, lengthOf, sizeOf, circleFirst, sizeFirst, circleOf, atOf, radialOf}
 use Rattle.stoplist.specs.Stops.{stopPositionOf, stopOf, itemsOf, stopsOf, twoStopsOf}
-use Rattle.reader.specs.Text.{Written, withStops, linearOf, circularOf, closesOf, bodyOf, kindOf, functionOf, gradientOf}
+use Rattle.reader.specs.Written.{Written}
+use Rattle.reader.specs.Text.{withStops, linearOf, circularOf, closesOf, bodyOf, kindOf, functionOf, gradientOf}
 use Rattle.grammar.specs.Text.{InGrammar}
 use Rattle.grammar.proofs.Text.{refused-not}
 

@@ -12,7 +12,7 @@ use Rattle.gradient.specs.Range.{shapeIn, stopIn}
 use Rattle.gradient.specs.Blank.{blankStop, blankGradient}
 use Rattle.gradient.specs.declared.Gradient.{Gradient}
 use Rattle.reader.specs.declared.Reading.{Reading}
-use Rattle.reader.specs.Text.{Written}
+use Rattle.reader.specs.Written.{Written}
 use Rattle.grammar.specs.Text.{InGrammar}
 
 -- every number is in its range

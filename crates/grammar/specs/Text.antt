@@ -10,7 +10,7 @@ use Rattle.gradient.specs.declared.Direction.the-variants as D
 use Rattle.gradient.specs.declared.Shape.{Shape}
 use Rattle.gradient.specs.declared.Shape.the-variants as Sh
 use Rattle.gradient.specs.declared.Stop.{Stop}
-use Rattle.reader.specs.Text.{Written, written}
+use Rattle.reader.specs.Written.{Written, written}
 use Rattle.grammar.specs.Words.{Space, Spaced, Word}
 use Rattle.grammar.specs.Stops.{StopsText}
 use Rattle.grammar.specs.Directions.{DirectionText}

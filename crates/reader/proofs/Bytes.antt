@@ -15,7 +15,8 @@ use Rattle.gradient.specs.Blank.{blankGradient}
 use Rattle.gradient.specs.Bytes.{StopBytes}
 use Rattle.stoplist.specs.View.{places}
 use Rattle.stoplist.proofs.Bytes.{bytes-blank, two-stops-bytes, places-bytes}
-use Rattle.reader.specs.Text.{Written, gradientOf}
+use Rattle.reader.specs.Written.{Written}
+use Rattle.reader.specs.Text.{gradientOf}
 use Rattle.reader.specs.Reading.{gradientIn, readReply, readOf}
 use Rattle.reader.proofs.Carried.{carried}
 

@@ -16,7 +16,8 @@ use Rattle.circles.specs.Circle.{radialOf}
 use Rattle.stoplist.specs.Stops.{itemsOf, twoStopsOf}
 use Rattle.reader.specs.declared.Kind.{Kind}
 use Rattle.reader.specs.declared.Kind.the-variants as K
-use Rattle.reader.specs.Text.{Written, written, first, others, withStops, byDirection, linearOf, circularOf, ofKind, kindOf, bodyOf, functionOf}
+use Rattle.reader.specs.Written.{Written, written}
+use Rattle.reader.specs.Text.{first, others, withStops, byDirection, linearOf, circularOf, ofKind, kindOf, bodyOf, functionOf}
 
 module _ (P : List Stop → Type 0) (keep : ℤ → ℤ) (read : (items : List (List ℕ)) → Gets P (twoStopsOf keep items)) where
   abbrev Holds : Read Written → Type 0

@@ -9,7 +9,8 @@ use lib.ListN.{length, length-map}
 use borrow.Author.Tests.{ltb-true, ltb-false, lt-ltb, le-ltb}
 use Rattle.text.specs.Text.{Read, got, refused, _>>=_, mapRead, isSpace, past, wholeOf}
 use Rattle.text.proofs.Laws.{map-bind, map-inside}
-use Rattle.tokens.specs.Number.{cut, exact}
+use Rattle.tokens.specs.Number.{exact}
+use Rattle.tokens.specs.Cut.{cut}
 use Rattle.gradient.specs.declared.Side.the-variants as S
 use Rattle.gradient.specs.declared.Direction.{Direction}
 use Rattle.gradient.specs.declared.Direction.the-variants as D
@@ -29,7 +30,8 @@ use Rattle.text.proofs.Whole.{whole-map}
 use Rattle.stoplist.proofs.Cut.{cutStop, two-stops-cut, all-in-cut, stops-kept}
 use Rattle.reader.specs.declared.Kind.{Kind}
 use Rattle.reader.specs.declared.Kind.the-variants as K
-use Rattle.reader.specs.Text.{Written, written, first, others, withStops, byDirection, linearOf, circularOf, ofKind, kindOf, bodyOf, functionOf, gradientOf}
+use Rattle.reader.specs.Written.{Written, written}
+use Rattle.reader.specs.Text.{first, others, withStops, byDirection, linearOf, circularOf, ofKind, kindOf, bodyOf, functionOf, gradientOf}
 use Rattle.reader.specs.Reading.{writtenReply, grammarReply, gradientIn, valueOf, answered, readReply, readOf}
 use Rattle.reader.specs.View.{draftOf, draftReply, concluded}
 

@@ -18,7 +18,8 @@ use Rattle.circles.specs.Circle.{radialOf}
 use Rattle.stoplist.specs.Stops.{itemsOf, twoStopsOf}
 use Rattle.stoplist.specs.View.{CommaAt, itemsFrom, listingOf}
 use Rattle.stoplist.proofs.Laws.{items-more}
-use Rattle.reader.specs.Text.{written, withStops, byDirection, linearOf, circularOf, first}
+use Rattle.reader.specs.Written.{written}
+use Rattle.reader.specs.Text.{withStops, byDirection, linearOf, circularOf, first}
 use Rattle.reader.specs.View.{draftOf, drafted, noDraft}
 
 -- a shape beside its stops, as the code keeps them

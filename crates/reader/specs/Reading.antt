@@ -14,7 +14,8 @@ use Rattle.gradient.specs.Blank.{blankGradient}
 use Rattle.gradient.specs.Range.{shapeIn, stopIn}
 use Rattle.stoplist.specs.View.{places}
 use Rattle.reader.specs.declared.Reading.{Reading}
-use Rattle.reader.specs.Text.{Written, gradientOf}
+use Rattle.reader.specs.Written.{Written}
+use Rattle.reader.specs.Text.{gradientOf}
 
 -- whether every number is in its range
 abbrev pub writtenIn : Written → Bool

@@ -1,4 +1,4 @@
--- The whole text of a gradient, as it is written: with numbers of any size and any number of stops. `keep` is how a number is kept.
+-- The whole text of a gradient, read. `keep` is how a number is kept.
 -- Assumes nothing.
 use Prim.Native.Nat.{ℕ}
 use mathlib.Core.Bool.{Bool, cond, _&&_}
@@ -10,20 +10,12 @@ use Rattle.gradient.specs.declared.Direction.{Direction}
 use Rattle.gradient.specs.declared.Direction.the-variants as D
 use Rattle.gradient.specs.declared.Shape.{Shape}
 use Rattle.gradient.specs.declared.Shape.the-variants as Sh
-use Rattle.gradient.specs.declared.Stop.{Stop}
+use Rattle.reader.specs.Written.{Written, written}
 use Rattle.reader.specs.declared.Kind.{Kind}
 use Rattle.reader.specs.declared.Kind.the-variants as K
 use Rattle.directions.specs.Direction.{directionOf}
 use Rattle.circles.specs.Circle.{radialOf}
 use Rattle.stoplist.specs.Stops.{itemsOf, twoStopsOf}
-
--- a gradient as it is written
-pub record Written : Type 0 where
-  pub shape : Shape
-  pub stops : List Stop
-
-abbrev pub written : Shape → List Stop → Written
-written s ss = record { shape = s; stops = ss }
 
 -- the first item, and those after it
 abbrev pub first : List (List ℕ) → List ℕ

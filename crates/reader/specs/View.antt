@@ -23,7 +23,8 @@ use Rattle.reader.specs.declared.CloseRead.{CloseRead}
 use Rattle.reader.specs.declared.CloseRead.the-variants as close
 use Rattle.reader.specs.declared.Draft.{Draft}
 use Rattle.reader.specs.declared.Reading.{Reading}
-use Rattle.reader.specs.Text.{Written, bodyOf}
+use Rattle.reader.specs.Written.{Written}
+use Rattle.reader.specs.Text.{bodyOf}
 use Rattle.reader.specs.Reading.{answered}
 
 abbrev pub viewKind : List ℕ → KindRead → Read Kind

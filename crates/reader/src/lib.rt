@@ -17,7 +17,7 @@ use text::Match;
 ghost use mathlib.Core.Path.{_≡_};
 ghost use lib.ListN.{drop};
 ghost use Rattle.text.specs.Text.{wholeOf};
-ghost use Rattle.tokens.specs.Number.{cut};
+ghost use Rattle.tokens.specs.Cut.{cut};
 ghost use Rattle.gradient.specs.Blank.{blankGradient};
 ghost use Rattle.directions.specs.Direction.{directionOf};
 ghost use Rattle.circles.specs.Circle.{radialOf};

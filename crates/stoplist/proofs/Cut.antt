@@ -16,7 +16,8 @@ use Rattle.gradient.specs.declared.Color.{Color}
 use Rattle.gradient.specs.declared.Position.{Position}
 use Rattle.gradient.specs.declared.Position.the-variants as P
 use Rattle.gradient.specs.declared.Stop.{Stop}
-use Rattle.tokens.specs.Number.{numberOf, exact, cut, cutNumber}
+use Rattle.tokens.specs.Number.{numberOf, exact}
+use Rattle.tokens.specs.Cut.{cut, cutNumber}
 use Rattle.tokens.specs.Color.{colorOf}
 use Rattle.tokens.specs.declared.Unit.{Unit}
 use Rattle.tokens.specs.declared.Unit.the-variants as U

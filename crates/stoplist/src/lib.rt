@@ -13,7 +13,7 @@ ghost use lib.Dec.{ltb};
 ghost use lib.ListN.{length, drop};
 ghost use Rattle.text.specs.Text.{afterGap, wholeOf};
 ghost use Rattle.gradient.specs.Range.{stopIn};
-ghost use Rattle.tokens.specs.Number.{cut};
+ghost use Rattle.tokens.specs.Cut.{cut};
 ghost use Rattle.stoplist.specs.Stops.{stopPositionOf, stopOf, twoStopsOf};
 ghost use Rattle.stoplist.specs.View.{viewPosition, viewStop, blankList, added, noListing, listingOf, itemsFrom, CommaAt};
 

@@ -13,7 +13,8 @@ use borrow.Author.Tests.{lt-leb, eq-eqb, ne-eqb}
 use Rattle.gradient.specs.Range.{lengthIn, radiusIn, percentageIn, angleIn}
 use Rattle.text.specs.Text.{mapRead}
 use Rattle.text.proofs.Laws.{map-inside}
-use Rattle.tokens.specs.Number.{afterSign, magnitudeOf, unitOf, signed, numberOf, exact, most, cut, cutNumber, upTo}
+use Rattle.tokens.specs.Number.{afterSign, magnitudeOf, unitOf, signed, numberOf, exact}
+use Rattle.tokens.specs.Cut.{most, cut, cutNumber, upTo}
 
 -- the code's number is the paper's, cut off
 pub number-cut : (l : List ℕ) → numberOf cut l ≡ mapRead cutNumber (numberOf exact l)

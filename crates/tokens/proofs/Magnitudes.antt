@@ -11,7 +11,8 @@ use lib.ListN.{length, drop}
 use borrow.Author.Tests.{leb-true, eq-eqb, ne-eqb}
 use Rattle.text.specs.Text.{peekOf, restOf, run, past, got, refused, mapRead}
 use Rattle.text.proofs.Laws.{nil-length}
-use Rattle.tokens.specs.Number.{isDigit, decimal, thousandths, fractionOf, magnitudeOf, upTo}
+use Rattle.tokens.specs.Number.{isDigit, decimal, thousandths, fractionOf, magnitudeOf}
+use Rattle.tokens.specs.Cut.{upTo}
 use Rattle.tokens.specs.View.{DigitsAt}
 use Rattle.tokens.specs.declared.Digits.{Digits}
 use Rattle.tokens.proofs.Decimal.{digits-below}

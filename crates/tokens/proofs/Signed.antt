@@ -8,7 +8,8 @@ use lib.IntN.{ℤ, pos, negℤ, _-ℤ_, +ℤ-idl}
 use mir.Syntax.{w32}
 use mir.Val.{SFits, toZ, ofZ}
 use mir.ValLaws.{toZ-pos, toZ-ofZ}
-use Rattle.tokens.specs.Number.{signed, most}
+use Rattle.tokens.specs.Number.{signed}
+use Rattle.tokens.specs.Cut.{most}
 
 module _ (n : ℕ) (h : n ≤ most) where
   pub plus : toZ w32 n ≡ signed false n

@@ -2,12 +2,12 @@
 -- the point may be absent if there is a point. `px`, `%` or `deg` follows at once. A bare number whose digits are all 0 is a length." Its value
 -- is exact and has no bound; it is in thousandths of its unit.
 -- Assumes nothing.
-use Prim.Native.Nat.{ℕ, suc, _+_, _*_, _-_, _^_, min}
+use Prim.Native.Nat.{ℕ, _+_, _*_, _-_, _^_}
 use Prim.Native.Char.{code}
 use mathlib.Core.List.{List, [], _∷_}
 use mathlib.Core.Bool.{Bool, true, false, cond, _||_, _&&_}
 use lib.Dec.{leb, eqb}
-use lib.IntN.{ℤ, pos, negsuc, negℤ}
+use lib.IntN.{ℤ, pos, negℤ}
 use lib.ListN.{length}
 use Rattle.text.specs.Text.{is, inRange, peekOf, restOf, isNil, run, past, Read, got, refused, _>>=_, _orRead_, wordFor}
 use Rattle.tokens.specs.declared.Unit.{Unit}
@@ -63,18 +63,3 @@ numberOf keep l = magnitudeOf (afterSign l) >>= λ n k. unitOf n k >>= λ u e. g
 -- The paper's number is kept as it is.
 abbrev pub exact : ℤ → ℤ
 exact z = z
-
--- The code's is cut off at a million units either way. No range reaches so far.
-abbrev pub most : ℕ
-most = 1000000000
-
-unfoldable pub cut : ℤ → ℤ
-cut (pos n) = pos (min n most)
-cut (negsuc n) = negℤ (pos (min (suc n) most))
-
-abbrev pub cutNumber : Number → Number
-cutNumber n = number (cut (n .value)) (n .unit)
-
--- a magnitude cut off
-abbrev pub upTo : ℕ → ℕ
-upTo n = min n most

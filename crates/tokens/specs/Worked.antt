@@ -8,7 +8,8 @@ use Rattle.text.specs.Text.{bytes, peekOf, restOf, run, past, got, refused, low
 use Rattle.gradient.specs.declared.Color.{Color}
 use Rattle.tokens.specs.declared.Unit.{Unit}
 use Rattle.tokens.specs.declared.Unit.the-variants.{Length, Percentage, Angle}
-use Rattle.tokens.specs.Number.{isDigit, decimal, isNegative, afterSign, thousandths, fractionOf, magnitudeOf, unitOf, number, numberOf, exact, cut}
+use Rattle.tokens.specs.Number.{isDigit, decimal, isNegative, afterSign, thousandths, fractionOf, magnitudeOf, unitOf, number, numberOf, exact}
+use Rattle.tokens.specs.Cut.{cut}
 use Rattle.tokens.specs.Color.{color, isHex, hexValue, hexColor, hexOf, colorNames, rowOf, namedOf, colorOf}
 
 -- a text that is a number and nothing more, and one that does not begin with a number

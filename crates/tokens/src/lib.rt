@@ -8,7 +8,8 @@ ghost use mathlib.Core.Bool.{true};
 ghost use mathlib.Core.List.{[], _∷_};
 ghost use lib.ListN.{drop};
 ghost use Rattle.text.specs.Text.{mapRead};
-ghost use Rattle.tokens.specs.Number.{isDigit, afterSign, signed, fractionOf, magnitudeOf, unitOf, numberOf, cut, most, upTo};
+ghost use Rattle.tokens.specs.Number.{isDigit, afterSign, signed, fractionOf, magnitudeOf, unitOf, numberOf};
+ghost use Rattle.tokens.specs.Cut.{cut, most, upTo};
 ghost use Rattle.tokens.specs.Color.{isHex, hexValue, hexOf, rowOf, namedOf, colorNames, colorOf};
 ghost use Rattle.tokens.specs.View.{DigitsAt, HexAt, fromRgba, fromShort, nameRow, viewAmount, viewUnit, viewNumber, viewColor};
 

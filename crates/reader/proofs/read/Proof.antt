@@ -3,7 +3,7 @@ use mathlib.Core.Path.{ap, _∙_}
 use mathlib.Core.List.{List}
 use Prim.Native.Nat.{ℕ}
 use borrow.Author.Tests.{lt-ltb}
-use Rattle.tokens.specs.Number.{cut}
+use Rattle.tokens.specs.Cut.{cut}
 use Rattle.reader.specs.Text.{functionOf}
 use Rattle.reader.specs.Reading.{readOf, readReply}
 use Rattle.reader.specs.View.{draftOf, concluded}

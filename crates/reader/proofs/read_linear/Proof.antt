@@ -1,7 +1,7 @@
 -- `reader::read_linear` meets its contract. Assumes nothing.
 use mathlib.Core.Path.{ap, _∙_}
 use Rattle.text.proofs.Laws.{seen}
-use Rattle.tokens.specs.Number.{cut}
+use Rattle.tokens.specs.Cut.{cut}
 use Rattle.reader.specs.View.{drafted}
 use Rattle.directions.specs.View.{viewDirection}
 use Rattle.reader.proofs.Items.{linear-got, linear-none}

@@ -8,7 +8,7 @@ use Rattle.text.proofs.Laws.{seen}
 use Rattle.gradient.specs.declared.Color.{Color}
 use Rattle.gradient.specs.declared.Position.{Position}
 use Rattle.gradient.specs.declared.Position.the-variants as P
-use Rattle.tokens.specs.Number.{cut}
+use Rattle.tokens.specs.Cut.{cut}
 use Rattle.tokens.specs.Color.{colorOf}
 use Rattle.tokens.specs.View.{viewColor}
 use Rattle.stoplist.specs.Stops.{stop, stopPositionOf, stopOf}

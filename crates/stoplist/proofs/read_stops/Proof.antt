@@ -12,7 +12,7 @@ use borrow.Author.Tests.{lt-ltb, le-ltb}
 use Rattle.gradient.specs.Range.{stopIn}
 use Rattle.gradient.specs.declared.Stop.{Stop}
 use Rattle.text.proofs.Laws.{seen}
-use Rattle.tokens.specs.Number.{cut}
+use Rattle.tokens.specs.Cut.{cut}
 use Rattle.stoplist.specs.declared.StopList.{StopList}
 use Rattle.stoplist.specs.View.{viewStop, added}
 use Rattle.stoplist.proofs.Laws.{Done, done-none, done-more, done-refused, done-few, done-enough}

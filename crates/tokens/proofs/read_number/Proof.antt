@@ -10,7 +10,8 @@ use mir.Val.{toZ, ofZ}
 use borrow.Author.Needs.{needs}
 use Rattle.text.specs.Text.{peekOf, got, refused, _>>=_, mapRead}
 use Rattle.text.proofs.Laws.{seen, bind-map, bind-same, gets-is, gets-mapped}
-use Rattle.tokens.specs.Number.{afterSign, isNegative, magnitudeOf, unitOf, signed, number, numberOf, most, cut, upTo}
+use Rattle.tokens.specs.Number.{afterSign, isNegative, magnitudeOf, unitOf, signed, number, numberOf}
+use Rattle.tokens.specs.Cut.{most, cut, upTo}
 use Rattle.tokens.specs.View.{viewAmount, viewUnit}
 use Rattle.tokens.specs.declared.Unit.{Unit}
 use Rattle.tokens.proofs.Cut.{cut-signed, unit-cut}
