@@ -25,7 +25,8 @@ pub data ReadBy (text before : List ℕ) : ℕ → List ℕ → Type 0 where
   -- 2, when the slice is "shorter than the one size docs/ states with its layout"
   no-room : length before < gradientSize → ReadBy text before noRoom (replicate (length before) 0)
   -- any other refusal: "it is all zeros after a refusal"
-  refused : {r : Reading} → gradientSize ≤ length before → Answers text r → (r .reply ≡ done → ⊥) → ReadBy text before (r .reply) (replicate (length before) 0)
+  refused : {r : Reading} → gradientSize ≤ length before → Answers text r → (r .reply ≡ done → ⊥)
+      → ReadBy text before (r .reply) (replicate (length before) 0)
   -- 0: the layout of the gradient "and zero past the answer"
   handed : {g : Gradient} → gradientSize ≤ length before → Answers text (record { reply = done; gradient = g })
       → ReadBy text before done (padded (length before) (layoutOf g))
@@ -38,7 +39,8 @@ read-by text before after r h = rw (h .bytes-left, h .reply) (go (ltb (length be
     n : ℕ
     n = length before
 
-    answered : (m : ℕ) (g : Gradient) → gradientSize ≤ n → Answers text (record { reply = m; gradient = g }) → ReadBy text before m (buffer m (layoutOf g) n)
+    answered : (m : ℕ) (g : Gradient) → gradientSize ≤ n → Answers text (record { reply = m; gradient = g })
+        → ReadBy text before m (buffer m (layoutOf g) n)
     answered zero g s a = handed s a
     answered (suc m) g s a = refused {r = record { reply = suc m; gradient = g }} s a (λ e. omega arith)
 

@@ -33,12 +33,14 @@ pub answers : (text : List ℕ) → Answers text (readOf text)
 unfolding readOf readReply
 answers text = go (ltb 1024 (length text)) refl (gradientOf exact text) refl
   where
-    judged : (g : Written) → length text ≤ 1024 → InGrammar text g → (a b m : Bool) → shapeIn (g .shape) ≡ a → all stopIn (g .stops) ≡ b → ltb 16 (length (g .stops)) ≡ m
+    judged : (g : Written) → length text ≤ 1024 → InGrammar text g → (a b m : Bool) → shapeIn (g .shape) ≡ a → all stopIn (g .stops) ≡ b
+        → ltb 16 (length (g .stops)) ≡ m
         → Answers text (answered (given (not (a && b)) outOfRange orElse given m tooManyStops) (R.valueOf g))
     judged g h i false b m p q r = out-of-range h i (λ z. true≢false (sym (z .shape) ∙ p))
     judged g h i true false m p q r = out-of-range h i (λ z. true≢false (sym (z .stops) ∙ q))
     judged g h i true true true p q r = too-many h i (record { shape = p; stops = q }) (ltb-true 16 _ r)
-    judged g h i true true false p q r = let n = ltb-false 16 (length (g .stops)) r in rw (same-value g n) (accepted h i (record { shape = p; stops = q }) n)
+    judged g h i true true false p q r =
+        let n = ltb-false 16 (length (g .stops)) r in rw (same-value g n) (accepted h i (record { shape = p; stops = q }) n)
 
     go : (t : Bool) → ltb 1024 (length text) ≡ t → (r : Read Written) → r ≡ gradientOf exact text
         → Answers text (answered (given t longText orElse grammarReply r) (gradientIn r))
@@ -62,7 +64,8 @@ only {text} (too-long h) = rw (lt-ltb 1024 (length text) h)
 only {text} (not-in-grammar h n) = rw (le-ltb 1024 (length text) h, not-refused text n)
 only {text} (out-of-range {g} h i n) = rw (le-ltb 1024 (length text) h, ← complete i, out-of-one g n)
 only {text} (too-many {g} h i z m) = rw (le-ltb 1024 (length text) h, ← complete i, z .shape, z .stops, lt-ltb 16 (length (g .stops)) m)
-only {text} (accepted {g} h i z m) = rw (le-ltb 1024 (length text) h, ← complete i, z .shape, z .stops, le-ltb 16 (length (g .stops)) m, take-all 16 (g .stops) m)
+only {text} (accepted {g} h i z m) =
+    rw (le-ltb 1024 (length text) h, ← complete i, z .shape, z .stops, le-ltb 16 (length (g .stops)) m, take-all 16 (g .stops) m)
 
 -- A call that answers as the definition of reading does answers as the grammar asks, and the other way round.
 pub read-answers : (text : List ℕ) (r : Reading) → (r ≡ readOf text) ↔ Answers text r

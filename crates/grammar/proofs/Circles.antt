@@ -27,9 +27,9 @@ use Rattle.grammar.specs.Words.{Every, Gap, Space, Word, OneOf, one}
 use Rattle.grammar.specs.Numbers.{LengthText}
 use Rattle.grammar.specs.Positions.{PositionText}
 use Rattle.grammar.specs.Circles.{ExtentWord, SizeText, CircleText, ShapeText}
-use Rattle.grammar.proofs.Laws.{Is, Reads, some, nothing, reads-or, reads-as, reads-map, reads-then, After, after, reads-after, reads-word, reads-for, gap-low, space-ends, after-reads, after-refused, after-blank, word-reads, unlike, word-high, every-append, gap-plain, word-plain}
+use Rattle.grammar.proofs.Laws.{Is, Reads, some, nothing, reads-or, reads-as, reads-map, reads-then, After, after, reads-after, reads-word, reads-for, gap-low, space-ends, after-reads, after-refused, after-blank, word-reads, unlike, word-high, not-letter, every-append, gap-plain, word-plain}
 use Rattle.grammar.proofs.Numbers.{Numbered, NumberText, reads-number, number-reads, number-first, no-number, number-none, number-plain}
-use Rattle.grammar.proofs.Positions.{reads-position, position-reads, position-first, position-plain, not-letter}
+use Rattle.grammar.proofs.Positions.{reads-position, position-reads, position-first, position-plain}
 
 -- ---- sound
 reads-extent : (l : List ℕ) → Reads (OneOf ExtentWord) l (extentOf l)
@@ -66,7 +66,8 @@ length-circle (length n) = CircleText.length n
 reads-size : (l : List ℕ) → Reads SizeText l (sizeOf exact l)
 unfolding sizeOf
 reads-size l =
-    reads-or (reads-map SizeText (λ e. Z.Extent e) (λ e w h. SizeText.extent h) (reads-extent l)) (reads-as SizeText (λ z w h. length-size h) (reads-length l))
+    reads-or (reads-map SizeText (λ e. Z.Extent e) (λ e w h. SizeText.extent h) (reads-extent l))
+    (reads-as SizeText (λ z w h. length-size h) (reads-length l))
 
 reads-circle : (l : List ℕ) → Reads CircleText l (circleOf exact l)
 unfolding circleOf circleFirst sizeFirst
@@ -74,13 +75,16 @@ reads-circle l =
     reads-or (reads-then CircleText _ (λ _ w h m.
     reads-or (reads-as (λ v z. CircleText (w ++ v) z) (λ z v q. size-after h q) (reads-after SizeText (sizeOf exact) reads-size m))
     (some {a = Z.Extent E.FarthestCorner} [] (rw (append-nil w) (CircleText.circle h)) refl)) (reads-word "circle" refl l))
-    (reads-or (reads-then CircleText _ (λ z w h m. size-before z h (reads-after (λ v x. (x ≡ z) × Word "circle" v) (wordFor "circle" z) (λ k. reads-for (λ v x. (x ≡ z) × Word "circle" v) "circle" z refl (λ v q. (refl, q)) k) m)) (reads-size l))
+    (reads-or (reads-then CircleText _ (λ z w h m. size-before z h
+    (reads-after (λ v x. (x ≡ z) × Word "circle" v) (wordFor "circle" z)
+    (λ k. reads-for (λ v x. (x ≡ z) × Word "circle" v) "circle" z refl (λ v q. (refl, q)) k) m)) (reads-size l))
     (reads-as CircleText (λ z w h. length-circle h) (reads-length l)))
   where
     size-after : {w v : List ℕ} {z : Size} → Word "circle" w → After SizeText v z → CircleText (w ++ v) z
     size-after h (after g q) = CircleText.size-after h g q
 
-    size-before : {w m : List ℕ} {r : Read Size} (z : Size) → SizeText w z → Reads (After (λ v x. (x ≡ z) × Word "circle" v)) m r → Reads (λ v x. CircleText (w ++ v) x) m r
+    size-before : {w m : List ℕ} {r : Read Size} (z : Size) → SizeText w z → Reads (After (λ v x. (x ≡ z) × Word "circle" v)) m r
+        → Reads (λ v x. CircleText (w ++ v) x) m r
     size-before z h (some {a = x} v (after g q) e) = some {a = x} v (rw (q .0) (CircleText.size-before h g (q .1))) e
     size-before z h nothing = nothing
 
@@ -94,7 +98,8 @@ reads-at l =
     reads-then AtText _ (λ _ w h m. at-then h (reads-after (λ v p. PositionText v (p .x, p .y)) (positionOf exact) reads-position m))
     (reads-after (λ w _. Word "at" w) (keywordOf (bytes "at")) (λ k. reads-word "at" refl k) l)
   where
-    at-then : {w m : List ℕ} {u : Unit {0}} {r : Read Place} → After {A = Unit {0}} (λ w _. Word "at" w) w u → Reads (After (λ v p. PositionText v (p .x, p .y))) m r
+    at-then : {w m : List ℕ} {u : Unit {0}} {r : Read Place} → After {A = Unit {0}} (λ w _. Word "at" w) w u
+        → Reads (After (λ v p. PositionText v (p .x, p .y))) m r
         → Reads (λ v p. AtText (w ++ v) p) m r
     at-then (after {g} {l = t} s h) (some {a = p} v (after q r) e) = some {a = p} v (rw (append-assoc g t v) (at s h q r)) e
     at-then h nothing = nothing
@@ -115,7 +120,8 @@ reads-shape l = reads-then ShapeText _ (λ z w h m. center z h (reads-at m)) (re
 extent-reads : {w : List ℕ} {e : Extent} (k : List ℕ) → OneOf ExtentWord w e → got e k ≡ extentOf (w ++ k)
 unfolding extentOf begins
 extent-reads k (one ExtentWord.closest-side w) = or-first _ (bind-got _ (word-reads k refl w) refl)
-extent-reads k (one ExtentWord.closest-corner w) = or-second (bind-refused _ (unlike "closest-side" k refl w)) (or-first _ (bind-got _ (word-reads k refl w) refl))
+extent-reads k (one ExtentWord.closest-corner w) =
+    or-second (bind-refused _ (unlike "closest-side" k refl w)) (or-first _ (bind-got _ (word-reads k refl w) refl))
 extent-reads k (one ExtentWord.farthest-side w) =
     or-second (bind-refused _ (unlike "closest-side" k refl w))
     (or-second (bind-refused _ (unlike "closest-corner" k refl w)) (or-first _ (bind-got _ (word-reads k refl w) refl)))
@@ -132,9 +138,11 @@ size-reads : {w : List ℕ} {z : Size} (k : List ℕ) → peekOf k ≤ 32 → Si
 unfolding sizeOf extentOf
 size-reads k h (SizeText.extent e) = or-first _ (bind-got _ (extent-reads k e) refl)
 size-reads k h (SizeText.length {l} n) =
-    let f = number-first k (NumberText.length n) in
-    or-second (bind-refused _ (or-second (bind-refused _ (not-letter _ _ (l ++ k) (f .1) (omega arith))) (or-second (bind-refused _ (not-letter _ _ (l ++ k) (f .1) (omega arith)))
-    (or-second (bind-refused _ (not-letter _ _ (l ++ k) (f .1) (omega arith))) (bind-refused _ (not-letter _ _ (l ++ k) (f .1) (omega arith)))))))
+    let f = number-first k (NumberText.length n) .1 in
+    or-second
+    (bind-refused _ (or-second (bind-refused _ (not-letter "closest-side" (l ++ k) refl f))
+    (or-second (bind-refused _ (not-letter "closest-corner" (l ++ k) refl f))
+    (or-second (bind-refused _ (not-letter "farthest-side" (l ++ k) refl f)) (bind-refused _ (not-letter "farthest-corner" (l ++ k) refl f))))))
     (length-reads k h n)
 
 -- a size is not the word `circle`, and begins above white space
@@ -144,7 +152,7 @@ size-not k (SizeText.extent (one ExtentWord.closest-side w)) = unlike "circle" k
 size-not k (SizeText.extent (one ExtentWord.closest-corner w)) = unlike "circle" k refl w
 size-not k (SizeText.extent (one ExtentWord.farthest-side w)) = unlike "circle" k refl w
 size-not k (SizeText.extent (one ExtentWord.farthest-corner w)) = unlike "circle" k refl w
-size-not k (SizeText.length {l} n) = not-letter _ _ (l ++ k) (number-first k (NumberText.length n) .1) (omega arith)
+size-not k (SizeText.length {l} n) = not-letter "circle" (l ++ k) refl (number-first k (NumberText.length n) .1)
 
 size-first : {w : List ℕ} {z : Size} (k : List ℕ) → SizeText w z → 32 < peekOf (w ++ k)
 size-first k (SizeText.extent (one ExtentWord.closest-side w)) = let f = word-high k refl w in omega arith
@@ -168,7 +176,8 @@ unfolding keywordOf peekOf lower
 word-none z = refl
 
 follow-blank : {k : List ℕ} → Space k → Follow k
-follow-blank h = record { ends = space-ends h; no-size = after-blank (sizeOf exact) h size-none; no-circle = λ z. after-blank (wordFor "circle" z) h (word-none z) }
+follow-blank h =
+    record { ends = space-ends h; no-size = after-blank (sizeOf exact) h size-none; no-circle = λ z. after-blank (wordFor "circle" z) h (word-none z) }
 
 follow-at : {g l : List ℕ} (m : List ℕ) → Gap g → Word "at" l → Follow (g ++ (l ++ m))
 unfolding sizeOf extentOf lengthOf begins
@@ -177,7 +186,8 @@ follow-at {l} m s w =
     record {
       ends = gap-low (l ++ m) s;
       no-size = after-refused (sizeOf exact) (l ++ m) s (omega arith)
-          (or-second (bind-refused _ (or-second (bind-refused _ (unlike "closest-side" m refl w)) (or-second (bind-refused _ (unlike "closest-corner" m refl w))
+          (or-second (bind-refused _ (or-second (bind-refused _ (unlike "closest-side" m refl w))
+          (or-second (bind-refused _ (unlike "closest-corner" m refl w))
           (or-second (bind-refused _ (unlike "farthest-side" m refl w)) (bind-refused _ (unlike "farthest-corner" m refl w))))))
           (bind-refused _ (number-none (l ++ m) (inr f))));
       no-circle = λ z. after-refused (wordFor "circle" z) (l ++ m) s (omega arith) (bind-refused _ (unlike "circle" m refl w));
@@ -188,12 +198,14 @@ unfolding circleOf circleFirst sizeFirst
 circle-reads k h (CircleText.circle w) = or-first _ (bind-got _ (word-reads k refl w) (or-second (h .no-size) refl))
 circle-reads k h (CircleText.size-after {l} {g} {m} w s q) =
     rw (append-assoc l (g ++ m) k, append-assoc g m k)
-    (or-first _ (bind-got _ (word-reads (g ++ (m ++ k)) refl w) (or-first _ (after-reads (sizeOf exact) (m ++ k) k s (size-first k q) (size-reads k (h .ends) q)))))
+    (or-first _ (bind-got _ (word-reads (g ++ (m ++ k)) refl w)
+    (or-first _ (after-reads (sizeOf exact) (m ++ k) k s (size-first k q) (size-reads k (h .ends) q)))))
 circle-reads {z} k h (CircleText.size-before {l} {g} {m} q s w) =
     let f = word-high k refl w in
     rw (append-assoc l (g ++ m) k, append-assoc g m k)
     (or-second (bind-refused _ (size-not (g ++ (m ++ k)) q))
-    (or-first _ (bind-got _ (size-reads (g ++ (m ++ k)) (gap-low (m ++ k) s) q) (after-reads (wordFor "circle" z) (m ++ k) k s (omega arith) (bind-got _ (word-reads k refl w) refl)))))
+    (or-first _ (bind-got _ (size-reads (g ++ (m ++ k)) (gap-low (m ++ k) s) q)
+    (after-reads (wordFor "circle" z) (m ++ k) k s (omega arith) (bind-got _ (word-reads k refl w) refl)))))
 circle-reads {z} k h (CircleText.length n) =
     or-second (bind-refused _ (size-not k (SizeText.length n)))
     (or-second (bind-got _ (size-reads k (h .ends) (SizeText.length n)) (h .no-circle z)) (length-reads k (h .ends) n))
@@ -225,7 +237,8 @@ shape-reads {k} b (ShapeText.positioned {l} {g} {m} {h} {n} c s w t q) =
 
 pub shape-first : {w : List ℕ} {s : Shape} (k : List ℕ) → ShapeText w s → 32 < peekOf (w ++ k)
 shape-first k (ShapeText.centered c) = circle-first k c
-shape-first k (ShapeText.positioned {l} {g} {m} {h} {n} c s w t q) = rw (append-assoc l (g ++ (m ++ (h ++ n))) k) (circle-first ((g ++ (m ++ (h ++ n))) ++ k) c)
+shape-first k (ShapeText.positioned {l} {g} {m} {h} {n} c s w t q) =
+    rw (append-assoc l (g ++ (m ++ (h ++ n))) k) (circle-first ((g ++ (m ++ (h ++ n))) ++ k) c)
 
 -- ---- no comma
 size-plain : {w : List ℕ} {z : Size} → SizeText w z → Every (Is notComma) w

@@ -104,12 +104,14 @@ digits d k (more a (more b (more c (more e (more f (more g none)))))) =
 digits d k (more a (more b (more c (more e (more f (more g (more h none))))))) = nothing
 digits d k (more a (more b (more c (more e (more f (more g (more h (more i none)))))))) =
     some _ (ColorText.eight (is-hex _ a) (is-hex _ b) (is-hex _ c) (is-hex _ e) (is-hex _ f) (is-hex _ g) (is-hex _ h) (is-hex _ i)) refl
-digits d k (more a (more b (more c (more e (more f (more g (more h (more i (more j t))))))))) = rw (← too-many (length d) (d ++ k) k (omega arith)) nothing
+digits d k (more a (more b (more c (more e (more f (more g (more h (more i (more j t))))))))) =
+    rw (← too-many (length d) (d ++ k) k (omega arith)) nothing
 
 -- rows whose names are colors of the grammar
 data Known : List Row → Type 0 where
   end : Known []
-  row : {v : Color} {t : List Row} (s : String) → whole s ≡ true → ((w : List ℕ) → Word s w → ColorText w v) → Known t → Known (record { name = bytes s; color = v } ∷ t)
+  row : {v : Color} {t : List Row} (s : String) → whole s ≡ true → ((w : List ℕ) → Word s w → ColorText w v) → Known t
+      → Known (record { name = bytes s; color = v } ∷ t)
 
 known : Known colorNames
 unfolding colorNames
@@ -144,13 +146,16 @@ reads-color [] = reads-named known []
 reads-color (b ∷ l) = go (is "#" b) refl
   where
     go : (t : Bool) → is "#" b ≡ t → Reads ColorText (b ∷ l) (cond t (hexColor (length (run isHex l)) l (past isHex l)) (namedOf colorNames (b ∷ l)))
-    go true e = behind ColorText (code "#" ∷ []) (b ∷ l) (rw (eqb-true b (code "#") e)) (rw (run-past isHex l) at (digits (run isHex l) (past isHex l) (run-every isHex l)))
+    go true e =
+        behind ColorText (code "#" ∷ []) (b ∷ l) (rw (eqb-true b (code "#") e))
+        (rw (run-past isHex l) at (digits (run isHex l) (past isHex l) (run-every isHex l)))
     go false e = reads-named known (b ∷ l)
 
 -- ---- complete
 low-hex : (k : List ℕ) → peekOf k ≤ 32 → isHex (peekOf k) ≡ false
 unfolding isHex
-low-hex k h = rw (below-range "0" "9" (peekOf k) (omega arith), below-range "A" "F" (peekOf k) (omega arith), below-range "a" "f" (peekOf k) (omega arith))
+low-hex k h =
+    rw (below-range "0" "9" (peekOf k) (omega arith), below-range "A" "F" (peekOf k) (omega arith), below-range "a" "f" (peekOf k) (omega arith))
 
 hex-reads : {d : List ℕ} {v : Color} (k : List ℕ) → peekOf k ≤ 32 → Every (Is isHex) d → got v k ≡ hexColor (length d) (d ++ k) k
     → got v k ≡ colorOf (code "#" ∷ (d ++ k))
@@ -221,12 +226,14 @@ long h h′ = let e = hex-is h .value in let e′ = hex-is h′ .value in omega 
 pub color-reads : {w : List ℕ} {v : Color} (k : List ℕ) → peekOf k ≤ 32 → ColorText w v → got v k ≡ colorOf (w ++ k)
 unfolding hexColor
 color-reads k h (ColorText.three a b c) =
-    hex-reads k h (more (hex-is a .is-hex) (more (hex-is b .is-hex) (more (hex-is c .is-hex) none))) (ap (λ v. got v k) (same-color (short a) (short b) (short c) refl))
+    hex-reads k h (more (hex-is a .is-hex) (more (hex-is b .is-hex) (more (hex-is c .is-hex) none)))
+    (ap (λ v. got v k) (same-color (short a) (short b) (short c) refl))
 color-reads k h (ColorText.four a b c e) =
     hex-reads k h (more (hex-is a .is-hex) (more (hex-is b .is-hex) (more (hex-is c .is-hex) (more (hex-is e .is-hex) none))))
     (ap (λ v. got v k) (same-color (short a) (short b) (short c) (short e)))
 color-reads k h (ColorText.six a b c e f g) =
-    hex-reads k h (more (hex-is a .is-hex) (more (hex-is b .is-hex) (more (hex-is c .is-hex) (more (hex-is e .is-hex) (more (hex-is f .is-hex) (more (hex-is g .is-hex) none))))))
+    hex-reads k h (more (hex-is a .is-hex) (more (hex-is b .is-hex)
+    (more (hex-is c .is-hex) (more (hex-is e .is-hex) (more (hex-is f .is-hex) (more (hex-is g .is-hex) none))))))
     (ap (λ v. got v k) (same-color (long a b) (long c e) (long f g) refl))
 color-reads k h (ColorText.eight a b c e f g i j) =
     hex-reads k h (more (hex-is a .is-hex) (more (hex-is b .is-hex) (more (hex-is c .is-hex) (more (hex-is e .is-hex)
@@ -248,9 +255,11 @@ color-first k (ColorText.named (one n w)) = let h = name-high (name-is n) w k in
 pub color-plain : {w : List ℕ} {v : Color} → ColorText w v → Every (Is notComma) w
 unfolding notComma
 color-plain (ColorText.three a b c) = more refl (more (hex-is a .plain) (more (hex-is b .plain) (more (hex-is c .plain) none)))
-color-plain (ColorText.four a b c e) = more refl (more (hex-is a .plain) (more (hex-is b .plain) (more (hex-is c .plain) (more (hex-is e .plain) none))))
+color-plain (ColorText.four a b c e) =
+    more refl (more (hex-is a .plain) (more (hex-is b .plain) (more (hex-is c .plain) (more (hex-is e .plain) none))))
 color-plain (ColorText.six a b c e f g) =
-    more refl (more (hex-is a .plain) (more (hex-is b .plain) (more (hex-is c .plain) (more (hex-is e .plain) (more (hex-is f .plain) (more (hex-is g .plain) none))))))
+    more refl (more (hex-is a .plain) (more (hex-is b .plain)
+    (more (hex-is c .plain) (more (hex-is e .plain) (more (hex-is f .plain) (more (hex-is g .plain) none))))))
 color-plain (ColorText.eight a b c e f g i j) =
     more refl (more (hex-is a .plain) (more (hex-is b .plain) (more (hex-is c .plain) (more (hex-is e .plain)
     (more (hex-is f .plain) (more (hex-is g .plain) (more (hex-is i .plain) (more (hex-is j .plain) none))))))))

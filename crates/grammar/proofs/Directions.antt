@@ -7,7 +7,6 @@ use lib.IntN.{ℤ}
 use Rattle.text.specs.Text.{bytes, lower, peekOf, keywordOf, Read, got, refused, _>>=_, _orRead_, afterGap}
 use Rattle.text.proofs.Laws.{bind-got, bind-refused, or-first, or-second}
 use Rattle.gradient.specs.declared.Side.{Side}
-use Rattle.gradient.specs.declared.Side.the-variants as S
 use Rattle.gradient.specs.declared.Vertical.{Vertical}
 use Rattle.gradient.specs.declared.Vertical.the-variants as Ver
 use Rattle.gradient.specs.declared.Horizontal.{Horizontal}
@@ -23,14 +22,16 @@ use Rattle.directions.specs.Direction.{sideAcross, sideDown, horizontalOf, vert
 use Rattle.stoplist.specs.View.{notComma}
 use Rattle.grammar.specs.Words.{Every, Gap, Space, Word, OneOf, one}
 use Rattle.grammar.specs.Directions.{SideWord, HorizontalWord, VerticalWord, DirectionText}
-use Rattle.grammar.proofs.Laws.{Is, Reads, some, nothing, reads-or, reads-as, reads-map, reads-then, After, after, reads-after, reads-word, reads-for, space-ends, after-reads, after-blank, word-reads, unlike, word-first, first-high, word-high, every-append, gap-plain, word-plain}
+use Rattle.grammar.proofs.Laws.{Is, Reads, some, nothing, reads-or, reads-as, reads-map, reads-then, After, after, reads-after, reads-word, reads-for, space-ends, after-reads, after-blank, word-reads, unlike, word-high, not-letter, every-append, gap-plain, word-plain}
 use Rattle.grammar.proofs.Numbers.{Numbered, NumberText, reads-number, number-reads, number-first, number-plain}
 
 -- ---- a direction as reading takes it apart: `to`, and what follows it
 data Toward : List ℕ → Direction → Type 0 where
   side : {l : List ℕ} {s : Side} → OneOf SideWord l s → Toward l (D.Side s)
-  horizontal-first : {l g m : List ℕ} {a : Horizontal} {v : Vertical} → OneOf HorizontalWord l a → Gap g → OneOf VerticalWord m v → Toward (l ++ (g ++ m)) (D.Corner v a)
-  vertical-first : {l g m : List ℕ} {a : Horizontal} {v : Vertical} → OneOf VerticalWord l v → Gap g → OneOf HorizontalWord m a → Toward (l ++ (g ++ m)) (D.Corner v a)
+  horizontal-first : {l g m : List ℕ} {a : Horizontal} {v : Vertical} → OneOf HorizontalWord l a → Gap g → OneOf VerticalWord m v
+      → Toward (l ++ (g ++ m)) (D.Corner v a)
+  vertical-first : {l g m : List ℕ} {a : Horizontal} {v : Vertical} → OneOf VerticalWord l v → Gap g → OneOf HorizontalWord m a
+      → Toward (l ++ (g ++ m)) (D.Corner v a)
 
 data Parts : List ℕ → Direction → Type 0 where
   to : {l g m : List ℕ} {d : Direction} → Word "to" l → Gap g → Toward m d → Parts (l ++ (g ++ m)) d
@@ -74,10 +75,12 @@ unfolding horizontalFirst verticalFirst
 reads-toward l =
     reads-or
     (reads-then Toward _ (λ a w h m.
-    reads-or (reads-map (λ x d. Toward (w ++ x) d) (λ v. D.Corner v a) (λ v x q. across h q) (reads-after (OneOf VerticalWord) verticalOf reads-vertical m))
+    reads-or (reads-map (λ x d. Toward (w ++ x) d) (λ v. D.Corner v a) (λ v x q. across h q)
+    (reads-after (OneOf VerticalWord) verticalOf reads-vertical m))
     (some {a = D.Side (sideAcross a)} [] (rw (append-nil w) (Toward.side (horizontal-side h))) refl)) (reads-horizontal l))
     (reads-then Toward _ (λ v w h m.
-    reads-or (reads-map (λ x d. Toward (w ++ x) d) (λ a. D.Corner v a) (λ a x q. down h q) (reads-after (OneOf HorizontalWord) horizontalOf reads-horizontal m))
+    reads-or (reads-map (λ x d. Toward (w ++ x) d) (λ a. D.Corner v a) (λ a x q. down h q)
+    (reads-after (OneOf HorizontalWord) horizontalOf reads-horizontal m))
     (some {a = D.Side (sideDown v)} [] (rw (append-nil w) (Toward.side (vertical-side h))) refl)) (reads-vertical l))
   where
     across : {w x : List ℕ} {a : Horizontal} {v : Vertical} → OneOf HorizontalWord w a → After (OneOf VerticalWord) x v → Toward (w ++ x) (D.Corner v a)
@@ -100,7 +103,8 @@ unfolding directionOf toOf angleOf
 reads-direction l =
     reads-as DirectionText (λ d w h. together h)
     (reads-or
-    (reads-then Parts _ (λ _ w h m. reads-as (λ v d. Parts (w ++ v) d) (λ d v q. then-toward h q) (reads-after Toward (λ m. horizontalFirst m orRead verticalFirst m) reads-toward m))
+    (reads-then Parts _ (λ _ w h m. reads-as (λ v d. Parts (w ++ v) d) (λ d v q. then-toward h q)
+    (reads-after Toward (λ m. horizontalFirst m orRead verticalFirst m) reads-toward m))
     (reads-word "to" refl l))
     (as-angle (reads-number l)))
   where
@@ -141,14 +145,17 @@ unfolding verticalOf keywordOf peekOf lower
 no-vertical = refl
 
 module _ {k : List ℕ} (h : Space k) where
-  horizontal-alone : {w : List ℕ} {a : Horizontal} → OneOf HorizontalWord w a → got (D.Side (sideAcross a)) k ≡ (horizontalFirst (w ++ k) orRead verticalFirst (w ++ k))
+  horizontal-alone : {w : List ℕ} {a : Horizontal} → OneOf HorizontalWord w a
+      → got (D.Side (sideAcross a)) k ≡ (horizontalFirst (w ++ k) orRead verticalFirst (w ++ k))
   unfolding horizontalFirst verticalFirst
   horizontal-alone a = or-first _ (bind-got _ (horizontal-reads k a) (or-second (bind-refused _ (after-blank verticalOf h no-vertical)) refl))
 
-  vertical-alone : {w : List ℕ} {v : Vertical} → OneOf VerticalWord w v → got (D.Side (sideDown v)) k ≡ (horizontalFirst (w ++ k) orRead verticalFirst (w ++ k))
+  vertical-alone : {w : List ℕ} {v : Vertical} → OneOf VerticalWord w v
+      → got (D.Side (sideDown v)) k ≡ (horizontalFirst (w ++ k) orRead verticalFirst (w ++ k))
   unfolding horizontalFirst verticalFirst
   vertical-alone v =
-      or-second (bind-refused _ (vertical-not k v)) (bind-got _ (vertical-reads k v) (or-second (bind-refused _ (after-blank horizontalOf h no-horizontal)) refl))
+      or-second (bind-refused _ (vertical-not k v)) (bind-got _ (vertical-reads k v)
+      (or-second (bind-refused _ (after-blank horizontalOf h no-horizontal)) refl))
 
   toward-reads : {w : List ℕ} {d : Direction} → Toward w d → got d k ≡ (horizontalFirst (w ++ k) orRead verticalFirst (w ++ k))
   unfolding horizontalFirst verticalFirst
@@ -159,12 +166,14 @@ module _ {k : List ℕ} (h : Space k) where
   toward-reads (Toward.horizontal-first {l} {g} {m} a s v) =
       let f = vertical-high k v in
       rw (append-assoc l (g ++ m) k, append-assoc g m k)
-      (or-first _ (bind-got _ (horizontal-reads (g ++ (m ++ k)) a) (or-first _ (bind-got _ (after-reads verticalOf (m ++ k) k s (omega arith) (vertical-reads k v)) refl))))
+      (or-first _ (bind-got _ (horizontal-reads (g ++ (m ++ k)) a)
+      (or-first _ (bind-got _ (after-reads verticalOf (m ++ k) k s (omega arith) (vertical-reads k v)) refl))))
   toward-reads (Toward.vertical-first {l} {g} {m} v s a) =
       let f = horizontal-high k a in
       rw (append-assoc l (g ++ m) k, append-assoc g m k)
       (or-second (bind-refused _ (vertical-not (g ++ (m ++ k)) v))
-      (bind-got _ (vertical-reads (g ++ (m ++ k)) v) (or-first _ (bind-got _ (after-reads horizontalOf (m ++ k) k s (omega arith) (horizontal-reads k a)) refl))))
+      (bind-got _ (vertical-reads (g ++ (m ++ k)) v) (or-first _
+      (bind-got _ (after-reads horizontalOf (m ++ k) k s (omega arith) (horizontal-reads k a)) refl))))
 
 toward-first : {w : List ℕ} {d : Direction} (k : List ℕ) → Toward w d → 57 < peekOf (w ++ k)
 toward-first k (Toward.side (one SideWord.left w)) = word-high k refl w
@@ -179,10 +188,10 @@ unfolding directionOf toOf angleOf
 parts-read {k} h (to {l} {g} {m} t s q) =
     let f = toward-first k q in
     rw (append-assoc l (g ++ m) k, append-assoc g m k)
-    (or-first _ (bind-got _ (word-reads (g ++ (m ++ k)) refl t) (after-reads (λ m. horizontalFirst m orRead verticalFirst m) (m ++ k) k s (omega arith) (toward-reads h q))))
+    (or-first _ (bind-got _ (word-reads (g ++ (m ++ k)) refl t)
+    (after-reads (λ m. horizontalFirst m orRead verticalFirst m) (m ++ k) k s (omega arith) (toward-reads h q))))
 parts-read {k} h (angle {l} n) =
-    or-second (bind-refused _ (word-first _ _ (l ++ k) (λ e. let f = number-first k n in let z = first-high _ 116 e (omega arith) in omega arith)))
-    (bind-got _ (number-reads k (space-ends h) n) refl)
+    or-second (bind-refused _ (not-letter "to" (l ++ k) refl (number-first k n .1))) (bind-got _ (number-reads k (space-ends h) n) refl)
 
 pub direction-reads : {w k : List ℕ} {d : Direction} → Space k → DirectionText w d → got d k ≡ directionOf exact (w ++ k)
 direction-reads h d = parts-read h (apart d)

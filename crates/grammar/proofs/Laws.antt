@@ -38,7 +38,8 @@ reads-map S f g (some w h e) = some w (g _ w h) e
 reads-map S f g nothing = nothing
 
 -- a reading of what follows, by the words that go before
-pub behind : {B : Type 0} {m : List ℕ} {t : Read B} (S : List ℕ → B → Type 0) (w l : List ℕ) → w ++ m ≡ l → Reads (λ v b. S (w ++ v) b) m t → Reads S l t
+pub behind : {B : Type 0} {m : List ℕ} {t : Read B} (S : List ℕ → B → Type 0) (w l : List ℕ) → w ++ m ≡ l → Reads (λ v b. S (w ++ v) b) m t
+    → Reads S l t
 behind S w l e (some {k} v h q) = some (w ++ v) h (append-assoc w v k ∙ ap (λ x. w ++ x) q ∙ e)
 behind S w l e nothing = nothing
 
@@ -113,7 +114,15 @@ run-space l = every-sub White is-white (run-every isSpace l)
 
 not-space : (b : ℕ) → 32 < b → isSpace b ≡ false
 unfolding isSpace
-not-space b h = rw (ne-eqb b 32 (λ e. omega arith), ne-eqb b 9 (λ e. omega arith), ne-eqb b 10 (λ e. omega arith), ne-eqb b 13 (λ e. omega arith), ne-eqb b 12 (λ e. omega arith))
+not-space b h =
+    rw (
+      ne-eqb b 32 (λ e. omega arith),
+      ne-eqb b 9 (λ e. omega arith),
+      ne-eqb b 10 (λ e. omega arith),
+      ne-eqb b 13 (λ e. omega arith),
+      ne-eqb b 12
+          (λ e. omega arith),
+    )
 
 white-low : {b : ℕ} → White b → b ≤ 32
 white-low White.space = omega arith
@@ -200,7 +209,8 @@ reads-whole R read f l = go (past isSpace l) (run-past isSpace l) (f (past isSpa
     finish a w k m h e p true q = means {a = a} (rw (← p, ← e) (spaced (run-space l) h (nil-past k q)))
     finish a w k m h e p false q = no
 
-    go : (m : List ℕ) → run isSpace l ++ m ≡ l → {r : Read _} → Reads R m r → Means (Spaced R) l (r >>= λ a k. cond (isNil (past isSpace k)) (got a []) refused)
+    go : (m : List ℕ) → run isSpace l ++ m ≡ l → {r : Read _} → Reads R m r
+        → Means (Spaced R) l (r >>= λ a k. cond (isNil (past isSpace k)) (got a []) refused)
     go m p (some {a} {k} w h e) = finish a w k m h e p (isNil (past isSpace k)) refl
     go m p nothing = no
 
@@ -288,7 +298,8 @@ found-more x w (b ∷ l) e p h = record { word = b ∷ h .word; lowered = cc (p,
 found : {k : List ℕ} (w l : List ℕ) → all (ltb 0) w ≡ true → got tt k ≡ keywordOf w l → Found w l k
 unfolding keywordOf
 found [] l e h = record { word = []; lowered = refl; joined = cc }
-found (x ∷ w) l e h = let q = keyword-letter x w l h in found-more x w l (ltb-true _ _ (both e .0)) (q .0) (found w (restOf l) (both {a = ltb 0 x} e .1) (q .1))
+found (x ∷ w) l e h =
+    let q = keyword-letter x w l h in found-more x w l (ltb-true _ _ (both e .0)) (q .0) (found w (restOf l) (both {a = ltb 0 x} e .1) (q .1))
 
 -- a word without byte 0
 abbrev pub whole : String → Bool
@@ -347,6 +358,12 @@ word-high k h (letter {c} e w) = go (ltb-true 57 (code c) h) e
     go : {b c : ℕ} → 57 < c → Letter b c → 57 < b
     go h same = h
     go h (capital i s) = omega arith
+
+-- and none stands where a sign, a digit or a point does
+pub not-letter : (s : String) (l : List ℕ) → high s ≡ true → peekOf l < 58 → refused ≡ keywordOf (bytes s) l
+not-letter empty l h n = absurd (false≢true h)
+not-letter (c then s) l h n =
+    word-first (code c) (bytes s) l (λ e. let z = first-high (peekOf l) (code c) e (ltb-true 57 (code c) h) in omega arith)
 
 -- ---- no comma
 abbrev pub plain : String → Bool

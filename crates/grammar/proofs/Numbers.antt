@@ -118,7 +118,8 @@ data UnitAfter : ℕ → List ℕ → Unit → Type 0 where
   bare : UnitAfter 0 [] Length
 
 data Parts : Unit → List ℕ → ℤ → Type 0 where
-  parts : {s m u : List ℕ} {neg : Bool} {n : ℕ} {unit : Unit} → Sign s neg → Magnitude m n → UnitAfter n u unit → Parts unit (s ++ (m ++ u)) (signed neg n)
+  parts : {s m u : List ℕ} {neg : Bool} {n : ℕ} {unit : Unit} → Sign s neg → Magnitude m n → UnitAfter n u unit
+      → Parts unit (s ++ (m ++ u)) (signed neg n)
 
 -- a number of the grammar by its unit
 pub data NumberText : Unit → List ℕ → ℤ → Type 0 where
@@ -185,10 +186,12 @@ point-digits {d} w v s t = let e : decimal 0 d * 1000 ≡ 1000 * decimal 0 d = o
 
 reads-fraction : (d l : List ℕ) → Every (Is isDigit) d → Reads (λ w n. Magnitude (d ++ (code "." ∷ w)) (decimal 0 d * 1000 + n)) l (fractionOf l)
 unfolding fractionOf thousandths
-reads-fraction d l h = go (run isDigit l) (run-every isDigit l) (run-past isDigit l) (leb 1 (count (run isDigit l)) && leb (count (run isDigit l)) 3) refl
+reads-fraction d l h =
+    go (run isDigit l) (run-every isDigit l) (run-past isDigit l) (leb 1 (count (run isDigit l)) && leb (count (run isDigit l)) 3) refl
   where
     go : (f : List ℕ) → Every (Is isDigit) f → f ++ past isDigit l ≡ l → (t : Bool) → (leb 1 (count f) && leb (count f) 3) ≡ t
-        → Reads (λ w n. Magnitude (d ++ (code "." ∷ w)) (decimal 0 d * 1000 + n)) l (cond t (got (decimal 0 f * 10 ^ (3 - count f)) (past isDigit l)) refused)
+        → Reads (λ w n. Magnitude (d ++ (code "." ∷ w)) (decimal 0 d * 1000 + n)) l
+        (cond t (got (decimal 0 f * 10 ^ (3 - count f)) (past isDigit l)) refused)
     go f v e true b = some f (point-digits h v (leb-true _ _ (both b .0)) (leb-true _ _ (both {a = leb 1 (count f)} b .1))) e
     go f v e false b = nothing
 
@@ -196,7 +199,8 @@ reads-magnitude : (l : List ℕ) → Reads Magnitude l (magnitudeOf l)
 unfolding magnitudeOf peekOf restOf
 reads-magnitude l = go (run isDigit l) (past isDigit l) (run-every isDigit l) (run-past isDigit l) (is "." (peekOf (past isDigit l))) refl
   where
-    pointed : (d m : List ℕ) → Every (Is isDigit) d → d ++ m ≡ l → peekOf m ≡ code "." → Reads Magnitude l (fractionOf (restOf m) >>= λ f k. got (decimal 0 d * 1000 + f) k)
+    pointed : (d m : List ℕ) → Every (Is isDigit) d → d ++ m ≡ l → peekOf m ≡ code "."
+        → Reads Magnitude l (fractionOf (restOf m) >>= λ f k. got (decimal 0 d * 1000 + f) k)
     pointed d [] h e q = absurd (omega arith)
     pointed d (b ∷ m) h e q =
         let p : d ++ (code "." ∷ m) ≡ l = rw (← q) e in
@@ -237,7 +241,8 @@ reads-number l =
     let g = sign-at l in
     behind Numbered (g .word) l (g .joined)
     (reads-then (λ v b. Numbered (g .word ++ v) b) _
-    (λ n m h k. reads-map (λ v b. Numbered (g .word ++ (m ++ v)) b) (λ u. number (signed (isNegative l) n) u) (λ u v e. together (parts (g .sign) h e)) (reads-unit n k))
+    (λ n m h k. reads-map (λ v b. Numbered (g .word ++ (m ++ v)) b) (λ u. number (signed (isNegative l) n) u)
+    (λ u v e. together (parts (g .sign) h e)) (reads-unit n k))
     (reads-magnitude (afterSign l)))
 
 -- ---- complete
@@ -283,7 +288,8 @@ unfolding unitOf begins
 unit-reads k h (UnitAfter.px w) = or-first _ (bind-got _ (word-reads k refl w) refl)
 unit-reads k h (UnitAfter.percent w) = or-second (bind-refused _ (unlike "px" k refl w)) (or-first _ (bind-got _ (word-reads k refl w) refl))
 unit-reads k h (UnitAfter.deg w) =
-    or-second (bind-refused _ (unlike "px" k refl w)) (or-second (bind-refused _ (unlike "%" k refl w)) (or-first _ (bind-got _ (word-reads k refl w) refl)))
+    or-second (bind-refused _ (unlike "px" k refl w)) (or-second (bind-refused _ (unlike "%" k refl w))
+    (or-first _ (bind-got _ (word-reads k refl w) refl)))
 unit-reads k h UnitAfter.bare =
     let e = lower-low (peekOf k) (omega arith) in
     or-second (bind-refused _ (word-first _ _ k (λ q. omega arith)))
@@ -309,7 +315,8 @@ magnitude-first k (point {d} {f} w v s e) = rw (append-assoc d (code "." ∷ f) 
 
 sign-reads : {s : List ℕ} {neg : Bool} (r : List ℕ) → 45 < peekOf r → Sign s neg → (afterSign (s ++ r) ≡ r) × (isNegative (s ++ r) ≡ neg)
 unfolding isNegative afterSign peekOf restOf
-sign-reads r h Sign.absent = (rw (ne-eqb (peekOf r) 43 (λ e. omega arith), ne-eqb (peekOf r) 45 (λ e. omega arith)), ne-eqb (peekOf r) 45 (λ e. omega arith))
+sign-reads r h Sign.absent =
+    (rw (ne-eqb (peekOf r) 43 (λ e. omega arith), ne-eqb (peekOf r) 45 (λ e. omega arith)), ne-eqb (peekOf r) 45 (λ e. omega arith))
 sign-reads r h Sign.positive = (refl, refl)
 sign-reads r h Sign.negative = (refl, refl)
 
@@ -327,7 +334,8 @@ parts-first k (parts Sign.positive b c) = (omega arith, omega arith)
 parts-first k (parts Sign.negative b c) = (omega arith, omega arith)
 
 -- every number before white space or the end; how one begins; and no number in nothing
-pub number-reads : {unit : Unit} {w : List ℕ} {z : ℤ} (k : List ℕ) → peekOf k ≤ 32 → NumberText unit w z → got (number z unit) k ≡ numberOf exact (w ++ k)
+pub number-reads : {unit : Unit} {w : List ℕ} {z : ℤ} (k : List ℕ) → peekOf k ≤ 32 → NumberText unit w z
+    → got (number z unit) k ≡ numberOf exact (w ++ k)
 number-reads k h n = parts-read k h (apart n)
 
 pub number-first : {unit : Unit} {w : List ℕ} {z : ℤ} (k : List ℕ) → NumberText unit w z → (42 < peekOf (w ++ k)) × (peekOf (w ++ k) < 58)

@@ -30,7 +30,7 @@ use Rattle.stoplist.specs.View.{notComma}
 use Rattle.grammar.specs.Words.{Every, Gap, Space, Word, OneOf, one}
 use Rattle.grammar.specs.Directions.{HorizontalWord, VerticalWord}
 use Rattle.grammar.specs.Positions.{percent, Across, Down, AmountText, AcrossText, DownText, PositionText}
-use Rattle.grammar.proofs.Laws.{Is, Reads, some, nothing, reads-or, reads-as, reads-map, reads-then, After, after, reads-after, reads-for, gap-low, space-ends, after-reads, after-blank, word-reads, unlike, word-first, first-high, word-high, every-append, gap-plain, word-plain}
+use Rattle.grammar.proofs.Laws.{Is, Reads, some, nothing, reads-or, reads-as, reads-map, reads-then, After, after, reads-after, reads-for, gap-low, space-ends, after-reads, after-blank, word-reads, unlike, word-high, not-letter, every-append, gap-plain, word-plain}
 use Rattle.grammar.proofs.Numbers.{Numbered, NumberText, reads-number, number-reads, number-first, no-number, number-plain}
 use Rattle.grammar.proofs.Directions.{reads-horizontal, reads-vertical, horizontal-reads, vertical-reads, vertical-not, horizontal-high, vertical-high, horizontal-plain, vertical-plain}
 
@@ -85,14 +85,16 @@ data Judged (l : List ℕ) : Pair → Type 0 where
 judged : {w g v : List ℕ} {a b : Part} → PartText w a → Gap g → PartText v b → Judged (w ++ (g ++ v)) (twoParts a b)
 judged (PartText.across x) g (PartText.across y) = neither
 judged (PartText.across x) g (PartText.down y) = position (PositionText.both (AcrossText.keyword (across-word x)) g (DownText.keyword (down-word y)))
-judged (PartText.across x) g (PartText.center y) = position (PositionText.both (AcrossText.keyword (across-word x)) g (DownText.keyword (one Down.center y)))
+judged (PartText.across x) g (PartText.center y) =
+    position (PositionText.both (AcrossText.keyword (across-word x)) g (DownText.keyword (one Down.center y)))
 judged (PartText.across x) g (PartText.at y) = position (PositionText.both (AcrossText.keyword (across-word x)) g (DownText.amount y))
 judged (PartText.down x) g (PartText.across y) = position (PositionText.turned (down-word x) g (across-word y))
 judged (PartText.down x) g (PartText.down y) = neither
 judged (PartText.down x) g (PartText.center y) = position (PositionText.turned (down-word x) g (one Across.center y))
 judged (PartText.down x) g (PartText.at y) = neither
 judged (PartText.center x) g (PartText.across y) = position (PositionText.turned (one Down.center x) g (across-word y))
-judged (PartText.center x) g (PartText.down y) = position (PositionText.both (AcrossText.keyword (one Across.center x)) g (DownText.keyword (down-word y)))
+judged (PartText.center x) g (PartText.down y) =
+    position (PositionText.both (AcrossText.keyword (one Across.center x)) g (DownText.keyword (down-word y)))
 judged (PartText.center x) g (PartText.center y) =
     position (PositionText.both (AcrossText.keyword (one Across.center x)) g (DownText.keyword (one Down.center y)))
 judged (PartText.center x) g (PartText.at y) = position (PositionText.both (AcrossText.keyword (one Across.center x)) g (DownText.amount y))
@@ -117,7 +119,8 @@ pub reads-position : (l : List ℕ) → Reads Placed l (positionOf exact l)
 unfolding positionOf secondOf
 reads-position l =
     reads-then Placed _ (λ a w h m.
-    reads-or (reads-as (λ v p. Placed (w ++ v) p) (λ p v q. joined h q) (reads-after (Second a) (λ k. partOf exact k >>= λ b e. placed (twoParts a b) e) (λ k. as-second (reads-part k)) m))
+    reads-or (reads-as (λ v p. Placed (w ++ v) p) (λ p v q. joined h q)
+    (reads-after (Second a) (λ k. partOf exact k >>= λ b e. placed (twoParts a b) e) (λ k. as-second (reads-part k)) m))
     (some {a = onePart a} [] (rw (append-nil w) (alone h)) refl))
     (reads-part l)
   where
@@ -138,10 +141,6 @@ amount-first : {w : List ℕ} {c : Coordinate} (k : List ℕ) → AmountText w c
 amount-first k (AmountText.length n) = number-first k (NumberText.length n)
 amount-first k (AmountText.percentage n) = number-first k (NumberText.percentage n)
 
--- where a number begins no word does
-pub not-letter : (x : ℕ) (n l : List ℕ) → peekOf l < 58 → 57 < x → refused ≡ keywordOf (x ∷ n) l
-not-letter x n l h q = word-first x n l (λ e. let z = first-high (peekOf l) x e q in omega arith)
-
 part-reads : {w : List ℕ} {a : Part} (k : List ℕ) → peekOf k ≤ 32 → PartText w a → got a k ≡ partOf exact (w ++ k)
 unfolding partOf horizontalOf verticalOf begins
 part-reads k h (PartText.across a) = or-first _ (bind-got _ (horizontal-reads k a) refl)
@@ -151,10 +150,10 @@ part-reads k h (PartText.center w) =
     (or-second (bind-refused _ (or-second (bind-refused _ (unlike "top" k refl w)) (bind-refused _ (unlike "bottom" k refl w))))
     (or-first _ (bind-got _ (word-reads k refl w) refl)))
 part-reads k h (PartText.at {l} c) =
-    let f = amount-first k c in
-    or-second (bind-refused _ (or-second (bind-refused _ (not-letter _ _ (l ++ k) (f .1) (omega arith))) (bind-refused _ (not-letter _ _ (l ++ k) (f .1) (omega arith)))))
-    (or-second (bind-refused _ (or-second (bind-refused _ (not-letter _ _ (l ++ k) (f .1) (omega arith))) (bind-refused _ (not-letter _ _ (l ++ k) (f .1) (omega arith)))))
-    (or-second (bind-refused _ (not-letter _ _ (l ++ k) (f .1) (omega arith))) (bind-got _ (amount-reads k h c) refl)))
+    let f = amount-first k c .1 in
+    or-second (bind-refused _ (or-second (bind-refused _ (not-letter "left" (l ++ k) refl f)) (bind-refused _ (not-letter "right" (l ++ k) refl f))))
+    (or-second (bind-refused _ (or-second (bind-refused _ (not-letter "top" (l ++ k) refl f)) (bind-refused _ (not-letter "bottom" (l ++ k) refl f))))
+    (or-second (bind-refused _ (not-letter "center" (l ++ k) refl f)) (bind-got _ (amount-reads k h c) refl)))
 
 part-first : {w : List ℕ} {a : Part} (k : List ℕ) → PartText w a → 32 < peekOf (w ++ k)
 part-first k (PartText.across a) = let f = horizontal-high k a in omega arith
@@ -184,9 +183,11 @@ record VerticalPart (l : List ℕ) (y : Coordinate) : Type 0 where
   is : asDown part ≡ A.At y
 
 horizontal-part : {l : List ℕ} {x : Coordinate} → AcrossText l x → HorizontalPart l x
-horizontal-part (AcrossText.keyword (one Across.left w)) = record { part = P.Across Hor.Left; text = PartText.across (one HorizontalWord.left w); is = refl; alone = refl }
+horizontal-part (AcrossText.keyword (one Across.left w)) =
+    record { part = P.Across Hor.Left; text = PartText.across (one HorizontalWord.left w); is = refl; alone = refl }
 horizontal-part (AcrossText.keyword (one Across.center w)) = record { part = P.Center; text = PartText.center w; is = refl; alone = refl }
-horizontal-part (AcrossText.keyword (one Across.right w)) = record { part = P.Across Hor.Right; text = PartText.across (one HorizontalWord.right w); is = refl; alone = refl }
+horizontal-part (AcrossText.keyword (one Across.right w)) =
+    record { part = P.Across Hor.Right; text = PartText.across (one HorizontalWord.right w); is = refl; alone = refl }
 horizontal-part (AcrossText.amount {c} h) = record { part = P.At c; text = PartText.at h; is = refl; alone = refl }
 
 vertical-part : {l : List ℕ} {y : Coordinate} → DownText l y → VerticalPart l y
@@ -203,16 +204,24 @@ read-as (PositionText.horizontal h) = let x = horizontal-part h in rw (x .alone)
 read-as (PositionText.vertical (one Down.top w)) = one-part (PartText.down (one VerticalWord.top w))
 read-as (PositionText.vertical (one Down.center w)) = one-part (PartText.center w)
 read-as (PositionText.vertical (one Down.bottom w)) = one-part (PartText.down (one VerticalWord.bottom w))
-read-as (PositionText.both h g v) = let x = horizontal-part h in let y = vertical-part v in two-parts (x .text) g (y .text) (in-order (x .part) (y .part) (x .is) (y .is))
-read-as (PositionText.turned (one Down.top v) g (one Across.left w)) = two-parts (PartText.down (one VerticalWord.top v)) g (PartText.across (one HorizontalWord.left w)) refl
+read-as (PositionText.both h g v) =
+    let x = horizontal-part h in let y = vertical-part v in two-parts (x .text) g (y .text) (in-order (x .part) (y .part) (x .is) (y .is))
+read-as (PositionText.turned (one Down.top v) g (one Across.left w)) =
+    two-parts (PartText.down (one VerticalWord.top v)) g (PartText.across (one HorizontalWord.left w)) refl
 read-as (PositionText.turned (one Down.top v) g (one Across.center w)) = two-parts (PartText.down (one VerticalWord.top v)) g (PartText.center w) refl
-read-as (PositionText.turned (one Down.top v) g (one Across.right w)) = two-parts (PartText.down (one VerticalWord.top v)) g (PartText.across (one HorizontalWord.right w)) refl
-read-as (PositionText.turned (one Down.center v) g (one Across.left w)) = two-parts (PartText.center v) g (PartText.across (one HorizontalWord.left w)) refl
+read-as (PositionText.turned (one Down.top v) g (one Across.right w)) =
+    two-parts (PartText.down (one VerticalWord.top v)) g (PartText.across (one HorizontalWord.right w)) refl
+read-as (PositionText.turned (one Down.center v) g (one Across.left w)) =
+    two-parts (PartText.center v) g (PartText.across (one HorizontalWord.left w)) refl
 read-as (PositionText.turned (one Down.center v) g (one Across.center w)) = two-parts (PartText.center v) g (PartText.center w) refl
-read-as (PositionText.turned (one Down.center v) g (one Across.right w)) = two-parts (PartText.center v) g (PartText.across (one HorizontalWord.right w)) refl
-read-as (PositionText.turned (one Down.bottom v) g (one Across.left w)) = two-parts (PartText.down (one VerticalWord.bottom v)) g (PartText.across (one HorizontalWord.left w)) refl
-read-as (PositionText.turned (one Down.bottom v) g (one Across.center w)) = two-parts (PartText.down (one VerticalWord.bottom v)) g (PartText.center w) refl
-read-as (PositionText.turned (one Down.bottom v) g (one Across.right w)) = two-parts (PartText.down (one VerticalWord.bottom v)) g (PartText.across (one HorizontalWord.right w)) refl
+read-as (PositionText.turned (one Down.center v) g (one Across.right w)) =
+    two-parts (PartText.center v) g (PartText.across (one HorizontalWord.right w)) refl
+read-as (PositionText.turned (one Down.bottom v) g (one Across.left w)) =
+    two-parts (PartText.down (one VerticalWord.bottom v)) g (PartText.across (one HorizontalWord.left w)) refl
+read-as (PositionText.turned (one Down.bottom v) g (one Across.center w)) =
+    two-parts (PartText.down (one VerticalWord.bottom v)) g (PartText.center w) refl
+read-as (PositionText.turned (one Down.bottom v) g (one Across.right w)) =
+    two-parts (PartText.down (one VerticalWord.bottom v)) g (PartText.across (one HorizontalWord.right w)) refl
 
 pub position-reads : {w k : List ℕ} {p : Coordinate × Coordinate} → Space k → PositionText w p → got (place (p .0) (p .1)) k ≡ positionOf exact (w ++ k)
 unfolding positionOf secondOf

@@ -68,7 +68,8 @@ unfolding stopOf
 reads-stop l =
     reads-as StopText (λ s w h. together h)
     (reads-then Parts _ (λ v w h m.
-    reads-or (reads-map (λ x s. Parts (w ++ x) s) (λ p. stop v p) (λ p x q. then-position h q) (reads-after PositionText (stopPositionOf exact) reads-position m))
+    reads-or (reads-map (λ x s. Parts (w ++ x) s) (λ p. stop v p) (λ p x q. then-position h q)
+    (reads-after PositionText (stopPositionOf exact) reads-position m))
     (some {a = stop v P.Auto} [] (rw (append-nil w) (alone h)) refl))
     (reads-color l))
   where
@@ -91,7 +92,8 @@ no-position = bind-refused _ no-number
 
 parts-read : {w k : List ℕ} {s : Stop} → Space k → Parts w s → got s k ≡ stopOf exact (w ++ k)
 unfolding stopOf
-parts-read {k} h (alone c) = bind-got _ (color-reads k (space-ends h) c) (or-second (bind-refused _ (after-blank (stopPositionOf exact) h no-position)) refl)
+parts-read {k} h (alone c) =
+    bind-got _ (color-reads k (space-ends h) c) (or-second (bind-refused _ (after-blank (stopPositionOf exact) h no-position)) refl)
 parts-read {k} h (placed {l} {g} {m} c a p) =
     rw (append-assoc l (g ++ m) k, append-assoc g m k)
     (bind-got _ (color-reads (g ++ (m ++ k)) (gap-low (m ++ k) a) c)
@@ -153,7 +155,8 @@ two-or-more : {l : List ℕ} {ss : List Stop} → Listed l ss → 2 ≤ length s
 two-or-more (last h) n = absurd (omega arith)
 two-or-more (next h t) n = and-more h t
 
-onto-stop : {i m : List ℕ} {s : Stop} {r : Read (List Stop)} → Spaced StopText i s → Means Listed m r → Means Listed (i ++ (code "," ∷ m)) (mapRead (λ ss. s ∷ ss) r)
+onto-stop : {i m : List ℕ} {s : Stop} {r : Read (List Stop)} → Spaced StopText i s → Means Listed m r
+    → Means Listed (i ++ (code "," ∷ m)) (mapRead (λ ss. s ∷ ss) r)
 onto-stop h (means q) = means (next h q)
 onto-stop h no = no
 
@@ -166,7 +169,8 @@ reads-listed (one {i}) = go (reads-item i)
     go no = no
 reads-listed (many {i} {m} {is} j) = go (reads-item i) (reads-listed j)
   where
-    go : {r : Read Stop} → Means (Spaced StopText) i r → Means Listed m (stopsOf exact is) → Means Listed (i ++ (code "," ∷ m)) (r >>= λ s _. mapRead (λ ss. s ∷ ss) (stopsOf exact is))
+    go : {r : Read Stop} → Means (Spaced StopText) i r → Means Listed m (stopsOf exact is)
+        → Means Listed (i ++ (code "," ∷ m)) (r >>= λ s _. mapRead (λ ss. s ∷ ss) (stopsOf exact is))
     go (means h) q = onto-stop h q
     go no q = no
 
@@ -207,7 +211,8 @@ stops-read {ss} h = let q = stops-are h in rw (← q .0, le-ltb (length ss) 2 (q
 item-not : {l : List ℕ} {s : Stop} → Spaced StopText l s → refused ≡ wholeOf (directionOf exact) l
 unfolding directionOf toOf angleOf
 item-not (spaced {l} {e} a h b) =
-    whole-refused (directionOf exact) (l ++ e) a (stop-first e h) (let n = stop-not e (apart h) in or-second (bind-refused _ (n .word)) (bind-refused _ (n .number)))
+    whole-refused (directionOf exact) (l ++ e) a (stop-first e h)
+    (let n = stop-not e (apart h) in or-second (bind-refused _ (n .word)) (bind-refused _ (n .number)))
   where
     stop-not : {w : List ℕ} {s : Stop} (k : List ℕ) → Parts w s → NotDirection (w ++ k)
     stop-not k (alone c) = color-not k c

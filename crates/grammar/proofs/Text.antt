@@ -36,7 +36,8 @@ use Rattle.grammar.proofs.Directions.{reads-direction, direction-reads,
 use Rattle.grammar.proofs.Circles.{reads-shape, shape-reads, shape-first, shape-plain}
 
 -- ---- sound
-with-stops : {l m : List ℕ} {is : List (List ℕ)} (R : List ℕ → Written → Type 0) (s : Shape) → ((ss : List Stop) → StopsText m ss → R l (written s ss)) → Joined m is → Means R l (withStops exact s is)
+with-stops : {l m : List ℕ} {is : List (List ℕ)} (R : List ℕ → Written → Type 0) (s : Shape)
+    → ((ss : List Stop) → StopsText m ss → R l (written s ss)) → Joined m is → Means R l (withStops exact s is)
 unfolding withStops
 with-stops {l} {m} R s f j = go (reads-stops j)
   where
@@ -57,7 +58,8 @@ reads-linear l = go (joined l)
     alone {is} (got d k) j e = rw (e, ← no-stops (Sh.Linear d)) no
     alone refused j e = with-stops LinearText (Sh.Linear (D.Side S.Bottom)) (λ ss h. plain h) j
 
-    ahead : {i m : List ℕ} {is : List (List ℕ)} {r : Read Direction} → Joined m is → Means (Spaced DirectionText) i r → Means LinearText (i ++ (code "," ∷ m)) (byDirection exact r (i ∷ is))
+    ahead : {i m : List ℕ} {is : List (List ℕ)} {r : Read Direction} → Joined m is → Means (Spaced DirectionText) i r
+        → Means LinearText (i ++ (code "," ∷ m)) (byDirection exact r (i ∷ is))
     ahead j (means {a = d} h) = with-stops LinearText (Sh.Linear d) (λ ss q. directed h q) j
     ahead j no = with-stops LinearText (Sh.Linear (D.Side S.Bottom)) (λ ss h. plain h) (many j)
 
@@ -69,7 +71,8 @@ reads-circular : (l : List ℕ) → Means RadialText l (circularOf exact l)
 unfolding circularOf
 reads-circular l = go (joined l)
   where
-    ahead : {i m : List ℕ} {is : List (List ℕ)} {r : Read Shape} → Joined m is → Means (Spaced ShapeText) i r → Means RadialText (i ++ (code "," ∷ m)) (r >>= λ s _. withStops exact s is)
+    ahead : {i m : List ℕ} {is : List (List ℕ)} {r : Read Shape} → Joined m is → Means (Spaced ShapeText) i r
+        → Means RadialText (i ++ (code "," ∷ m)) (r >>= λ s _. withStops exact s is)
     ahead j (means {a = s} h) = with-stops RadialText s (λ ss q. circular h q) j
     ahead j no = no
 
@@ -77,7 +80,8 @@ reads-circular l = go (joined l)
     alone l (got s k) = rw (← no-stops s) no
     alone l refused = no
 
-    go : {l : List ℕ} {is : List (List ℕ)} → Joined l is → Means RadialText l (wholeOf (radialOf exact) (first is) >>= λ s _. withStops exact s (others is))
+    go : {l : List ℕ} {is : List (List ℕ)} → Joined l is
+        → Means RadialText l (wholeOf (radialOf exact) (first is) >>= λ s _. withStops exact s (others is))
     go (one {i}) = alone i (wholeOf (radialOf exact) i)
     go (many {i} j) = ahead j (reads-whole ShapeText (radialOf exact) reads-shape i)
 
@@ -95,7 +99,8 @@ unfolding bodyOf closesOf peekOf restOf
 reads-body [] = open′
 reads-body (b ∷ l) = go (is ")" b) refl (isNil (past isSpace l)) refl (reads-body l)
   where
-    go : (t : Bool) → is ")" b ≡ t → (n : Bool) → isNil (past isSpace l) ≡ n → Closed l (bodyOf l) → Closed (b ∷ l) (cond (t && n) (got [] []) (mapRead (λ body. b ∷ body) (bodyOf l)))
+    go : (t : Bool) → is ")" b ≡ t → (n : Bool) → isNil (past isSpace l) ≡ n → Closed l (bodyOf l)
+        → Closed (b ∷ l) (cond (t && n) (got [] []) (mapRead (λ body. b ∷ body) (bodyOf l)))
     go true e true q h = rw (eqb-true b (code ")") e) (closed (nil-past l q))
     go true e false q h = closed-more b h
     go false e n q h = closed-more b h
@@ -107,7 +112,9 @@ data KindText : List ℕ → Kind → Type 0 where
 
 reads-kind : (l : List ℕ) → Reads KindText l (kindOf l)
 unfolding kindOf
-reads-kind l = reads-or (reads-for KindText "linear-gradient(" K.Linear refl (λ _ h. linear-name h) l) (reads-for KindText "radial-gradient(" K.Radial refl (λ _ h. radial-name h) l)
+reads-kind l =
+    reads-or (reads-for KindText "linear-gradient(" K.Linear refl (λ _ h. linear-name h) l)
+    (reads-for KindText "radial-gradient(" K.Radial refl (λ _ h. radial-name h) l)
 
 data Called : List ℕ → Written → Type 0 where
   called : {f e : List ℕ} {g : Written} → FunctionText f g → Space e → Called (f ++ e) g
@@ -119,15 +126,18 @@ reads-function l = go (reads-kind l)
     closing : (w b t : List ℕ) → (w ++ (b ++ (code ")" ∷ []))) ++ t ≡ w ++ (b ++ (code ")" ∷ t))
     closing w b t = rw (append-assoc w (b ++ (code ")" ∷ [])) t, append-assoc b (code ")" ∷ []) t)
 
-    line : {w b t : List ℕ} {r : Read Written} → Word "linear-gradient(" w → Space t → Means LinearText b r → Means Called (w ++ (b ++ (code ")" ∷ t))) r
+    line : {w b t : List ℕ} {r : Read Written}
+        → Word "linear-gradient(" w → Space t → Means LinearText b r → Means Called (w ++ (b ++ (code ")" ∷ t))) r
     line {w} {b} {t} q s (means {a = g} h) = means {a = g} (rw (closing w b t) at (called (linear q h) s))
     line q s no = no
 
-    ring : {w b t : List ℕ} {r : Read Written} → Word "radial-gradient(" w → Space t → Means RadialText b r → Means Called (w ++ (b ++ (code ")" ∷ t))) r
+    ring : {w b t : List ℕ} {r : Read Written}
+        → Word "radial-gradient(" w → Space t → Means RadialText b r → Means Called (w ++ (b ++ (code ")" ∷ t))) r
     ring {w} {b} {t} q s (means {a = g} h) = means {a = g} (rw (closing w b t) at (called (radial q h) s))
     ring q s no = no
 
-    body : {w k : List ℕ} {kind : Kind} {r : Read (List ℕ)} → KindText w kind → Closed k r → Means Called (w ++ k) (r >>= λ body _. ofKind exact kind body)
+    body : {w k : List ℕ} {kind : Kind} {r : Read (List ℕ)} → KindText w kind → Closed k r
+        → Means Called (w ++ k) (r >>= λ body _. ofKind exact kind body)
     body (linear-name q) (closed {b} s) = line q s (reads-linear b)
     body (radial-name q) (closed {b} s) = ring q s (reads-circular b)
     body q open′ = no
@@ -149,7 +159,8 @@ unfolding past isSpace
 not-nil [] e = refl
 not-nil (c ∷ b) e = go (isSpace c) (not-nil b e)
   where
-    go : (t : Bool) → isNil (past isSpace (b ++ (code ")" ∷ e))) ≡ false → isNil (cond t (past isSpace (b ++ (code ")" ∷ e))) (c ∷ (b ++ (code ")" ∷ e)))) ≡ false
+    go : (t : Bool) → isNil (past isSpace (b ++ (code ")" ∷ e))) ≡ false
+        → isNil (cond t (past isSpace (b ++ (code ")" ∷ e))) (c ∷ (b ++ (code ")" ∷ e)))) ≡ false
     go true h = h
     go false h = refl
 
@@ -190,7 +201,8 @@ function-reads {e} s (linear {l} {m} w h) =
     (bind-got _ (or-first _ (bind-got _ (word-reads (m ++ (code ")" ∷ e)) refl w) refl)) (bind-got _ (body-reads m s) (linear-reads h)))
 function-reads {e} s (radial {l} {m} w h) =
     rw (append-assoc l (m ++ (code ")" ∷ [])) e, append-assoc m (code ")" ∷ []) e)
-    (bind-got _ (or-second (bind-refused _ (unlike "linear-gradient(" (m ++ (code ")" ∷ e)) refl w)) (bind-got _ (word-reads (m ++ (code ")" ∷ e)) refl w) refl))
+    (bind-got _ (or-second (bind-refused _ (unlike "linear-gradient(" (m ++ (code ")" ∷ e)) refl w))
+    (bind-got _ (word-reads (m ++ (code ")" ∷ e)) refl w) refl))
     (bind-got _ (body-reads m s) (circular-reads h)))
 
 function-first : {l : List ℕ} {g : Written} (k : List ℕ) → FunctionText l g → 57 < peekOf (l ++ k)

@@ -37,10 +37,10 @@ pub data DirectionText : List ℕ → Direction → Type 0 where
   -- "`to` with one of left, right, top, bottom"
   side : {l g m : List ℕ} {s : Side} → Word "to" l → Gap g → OneOf SideWord m s → DirectionText (l ++ (g ++ m)) (D.Side s)
   -- "or one horizontal and one vertical word"
-  horizontal-first : {l g m h n : List ℕ} {a : Horizontal} {v : Vertical} → Word "to" l → Gap g → OneOf HorizontalWord m a → Gap h → OneOf VerticalWord n v
-      → DirectionText (l ++ (g ++ (m ++ (h ++ n)))) (D.Corner v a)
+  horizontal-first : {l g m h n : List ℕ} {a : Horizontal} {v : Vertical}
+      → Word "to" l → Gap g → OneOf HorizontalWord m a → Gap h → OneOf VerticalWord n v → DirectionText (l ++ (g ++ (m ++ (h ++ n)))) (D.Corner v a)
   -- "in either order"
-  vertical-first : {l g m h n : List ℕ} {a : Horizontal} {v : Vertical} → Word "to" l → Gap g → OneOf VerticalWord m v → Gap h → OneOf HorizontalWord n a
-      → DirectionText (l ++ (g ++ (m ++ (h ++ n)))) (D.Corner v a)
+  vertical-first : {l g m h n : List ℕ} {a : Horizontal} {v : Vertical}
+      → Word "to" l → Gap g → OneOf VerticalWord m v → Gap h → OneOf HorizontalWord n a → DirectionText (l ++ (g ++ (m ++ (h ++ n)))) (D.Corner v a)
   -- "or a number with `deg`"
   angle : {l : List ℕ} {z : ℤ} → AngleText l z → DirectionText l (D.Angle z)

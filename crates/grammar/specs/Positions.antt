@@ -15,7 +15,7 @@ use Rattle.grammar.specs.Numbers.{LengthText, PercentageText}
 abbrev pub percent : ℕ → Coordinate
 percent n = C.Percentage (pos (1000 * n))
 
--- "Keywords are left, center, right, top, bottom": those of each axis; `center` is of both
+-- "Keywords are left, center, right, top, bottom": those of each axis, `center` being of both, with the percentages that CSS gives them
 pub data Across : String → Coordinate → Type 0 where
   left : Across "left" (percent 0)
   center : Across "center" (percent 50)
