@@ -1,5 +1,6 @@
 -- The head of a radial gradient in the text. Document 01: "`circle`, or `circle` with a size on either side of it, or a single length alone; then
 -- an optional `at` and position". `keep` is how a number is kept.
+-- The code is proved by these definitions, and crate `grammar` proves that they are the grammar.
 -- Assumes nothing.
 use Prim.Native.Nat.{ℕ}
 use mathlib.Core.List.{List}

@@ -1,6 +1,7 @@
 -- The position of a circle's center in the text. Document 01: "A position: one or two parts. Keywords are left, center, right, top, bottom. One
 -- part sets its own axis and the other is center; a length, percentage or `center` alone is horizontal. In two parts the first is horizontal and
 -- the second vertical, but two keywords may come in either order." `keep` is how a number is kept.
+-- The code is proved by these definitions, and crate `grammar` proves that they are the grammar.
 -- Assumes nothing.
 use Prim.Native.Nat.{ℕ}
 use mathlib.Core.Bool.{Bool, true, false, cond, _&&_}

@@ -1,5 +1,6 @@
 -- The direction of a linear gradient in the text. Document 01: "A direction is a side, a corner or an angle: `to` with one of left, right, top,
 -- bottom, or one horizontal and one vertical word in either order, or a number with `deg`." `keep` is how a number is kept.
+-- The code is proved by these definitions, and crate `grammar` proves that they are the grammar.
 -- Assumes nothing.
 use Prim.Native.Nat.{ℕ}
 use mathlib.Core.List.{List}

@@ -15,12 +15,12 @@ use Rattle.text.proofs.Laws.{bind-got, run-past, in-range, below-range, above-r
 use Rattle.gradient.specs.declared.Color.{Color}
 use Rattle.tokens.specs.Number.{numberOf, exact}
 use Rattle.tokens.specs.Color.{begins, color, isHex, hexValue, hexColor, hexOf, Row, colorNames, rowAt, rowOf, namedOf, colorOf}
-use Rattle.tokens.proofs.Hex.{hex-end}
-use Rattle.tokens.proofs.NameTable.{name-found}
+use Rattle.tokens.proofs.Hex.{hex-end, hex-below}
+use Rattle.tokens.proofs.NameTable.{both, name-found}
 use Rattle.stoplist.specs.View.{notComma}
 use Rattle.grammar.specs.Words.{Every, none, more, Letter, same, capital, Word, OneOf, one}
 use Rattle.grammar.specs.Colors.{rgba, rgb, pair, Name, Hex, ColorText}
-use Rattle.grammar.proofs.Laws.{Is, Reads, some, nothing, behind, reads-or, reads-as, reads-for, run-every, past-every, every-run, small, word-reads, unlike, word-first, word-high, whole, high, plain, apart, both, not-comma, word-plain}
+use Rattle.grammar.proofs.Laws.{Is, Reads, some, nothing, behind, reads-or, reads-as, reads-for, run-every, past-every, every-run, small, word-reads, unlike, word-first, word-high, whole, high, plain, apart, not-comma, word-plain}
 use Rattle.grammar.proofs.Numbers.{number-none}
 
 -- ---- hex digits
@@ -153,9 +153,7 @@ reads-color (b ∷ l) = go (is "#" b) refl
 
 -- ---- complete
 low-hex : (k : List ℕ) → peekOf k ≤ 32 → isHex (peekOf k) ≡ false
-unfolding isHex
-low-hex k h =
-    rw (below-range "0" "9" (peekOf k) (omega arith), below-range "A" "F" (peekOf k) (omega arith), below-range "a" "f" (peekOf k) (omega arith))
+low-hex k h = sym (hex-below (peekOf k) (omega arith) (omega arith))
 
 hex-reads : {d : List ℕ} {v : Color} (k : List ℕ) → peekOf k ≤ 32 → Every (Is isHex) d → got v k ≡ hexColor (length d) (d ++ k) k
     → got v k ≡ colorOf (code "#" ∷ (d ++ k))

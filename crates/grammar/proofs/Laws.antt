@@ -13,6 +13,7 @@ use Rattle.text.specs.Text.{bytes, is, inRange, isNil, peekOf, restOf, past, ru
 use Rattle.text.proofs.Laws.{got-refused, keyword-letter, past-stop, run-stop, run-past, space-end, range-bounds, in-range}
 use Rattle.gradient.specs.Lists.{all}
 use Rattle.tokens.specs.Color.{begins}
+use Rattle.tokens.proofs.NameTable.{both, two-words}
 use Rattle.stoplist.specs.View.{notComma}
 use Rattle.grammar.specs.Words.{Every, none, more, White, Space, Gap, gap, Spaced, spaced, Letter, same, capital, Word, end, letter}
 
@@ -80,10 +81,6 @@ module _ (p : ℕ → Bool) (end : p 0 ≡ false) (k : List ℕ) (h : p (peekOf 
   unfolding run
   every-run none = run-stop p end k h
   every-run (more {b} e t) = rw e (ap (λ x. b ∷ x) (every-run t))
-
-pub both : {a b : Bool} → (a && b) ≡ true → (a ≡ true) × (b ≡ true)
-both {a = true} e = (refl, e)
-both {a = false} e = absurd (false≢true e)
 
 -- ---- white space
 white-is : {b : ℕ} → White b → isSpace b ≡ true
@@ -316,17 +313,6 @@ reads-word s e l = go (keywordOf (bytes s) l) refl
 pub reads-for : {A : Type 0} (R : List ℕ → A → Type 0) (s : String) (a : A) → whole s ≡ true → ((w : List ℕ) → Word s w → R w a)
     → (l : List ℕ) → Reads R l (wordFor s a l)
 reads-for R s a e f l = reads-map R (λ _. a) (λ _ w h. f w h) (reads-word s e l)
-
--- at most one of two words of which none begins the other stands at the front of a text
-two-words : {k m : List ℕ} (a b l : List ℕ) → got tt k ≡ keywordOf a l → got tt m ≡ keywordOf b l → (begins a b || begins b a) ≡ true
-unfolding begins
-two-words [] b l p q = refl
-two-words (x ∷ a) [] l p q = refl
-two-words (x ∷ a) (y ∷ b) l p q =
-    let u = keyword-letter x a l p in
-    let v = keyword-letter y b l q in
-    let e : x ≡ y = sym (u .0) ∙ v .0 in
-    rw (eq-eqb x y e, eq-eqb y x (sym e)) (two-words a b (restOf l) (u .1) (v .1))
 
 -- whether a is a word of small letters, and none of a and b begins the other
 abbrev pub apart : String → String → Bool

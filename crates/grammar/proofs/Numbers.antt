@@ -20,11 +20,12 @@ use Rattle.tokens.specs.declared.Number.{Number}
 use Rattle.tokens.specs.Number.{isDigit, decimal, signed, number, isNegative, afterSign, thousandths, fractionOf, magnitudeOf, unitOf, numberOf, exact}
 use Rattle.tokens.specs.Color.{begins}
 use Rattle.tokens.proofs.Decimal.{digit-end, digit-bounds}
+use Rattle.tokens.proofs.NameTable.{both}
 use Rattle.stoplist.specs.View.{notComma}
 use Rattle.grammar.specs.Words.{Every, none, more, Word}
 use Rattle.grammar.specs.Numbers as G
 use Rattle.grammar.specs.Numbers.{Digit, digit, Digits, Magnitude, whole, point, Signed, unsigned, plus, minus, ZeroDigit, LengthText, PercentageText, AngleText}
-use Rattle.grammar.proofs.Laws.{Is, Reads, some, nothing, behind, reads-or, reads-then, reads-map, reads-for, run-every, past-every, every-run, word-reads, unlike, word-first, lower-low, first-low, word-high, both, every-append, every-sub, not-comma, word-plain}
+use Rattle.grammar.proofs.Laws.{Is, Reads, some, nothing, behind, reads-or, reads-then, reads-map, reads-for, run-every, past-every, every-run, word-reads, unlike, word-first, lower-low, first-low, word-high, every-append, every-sub, not-comma, word-plain}
 
 -- ---- digits
 digit-byte : {b x : ℕ} → Digit b x → (b ≡ 48 + x) × (x < 10)

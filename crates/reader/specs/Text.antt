@@ -1,4 +1,5 @@
 -- The whole text of a gradient, read. `keep` is how a number is kept.
+-- The code is proved by these definitions, and crate `grammar` proves that they are the grammar.
 -- Assumes nothing.
 use Prim.Native.Nat.{ℕ}
 use mathlib.Core.Bool.{Bool, cond, _&&_}

@@ -1,5 +1,6 @@
 -- Color stops in the text. Document 01: "A stop: a colour, then optionally a length or percentage." Stops are "split by commas", "two or more".
 -- `keep` is how a number is kept.
+-- The code is proved by these definitions, and crate `grammar` proves that they are the grammar.
 -- Assumes nothing.
 use Prim.Native.Nat.{ℕ}
 use mathlib.Core.Bool.{cond}

@@ -14,7 +14,7 @@ use Rattle.text.proofs.Laws.{got-refused, keyword-letter}
 use Rattle.gradient.specs.declared.Color.{Color}
 use Rattle.tokens.specs.Color.{Row, colorNames, rowAt, rowOf, namedOf, begins, apart}
 
-both : {a b : Bool} → (a && b) ≡ true → (a ≡ true) × (b ≡ true)
+pub both : {a b : Bool} → (a && b) ≡ true → (a ≡ true) × (b ≡ true)
 both {a = true} e = (refl, e)
 both {a = false} e = absurd (false≢true e)
 
@@ -25,7 +25,7 @@ at-each p (x ∷ l) d t zero h = both t .0
 at-each p (x ∷ l) d t (suc i) h = at-each p l d (both {a = p x} t .1) i (omega arith)
 
 -- of two words that stand at the front of one text, one begins the other
-two-words : {k m : List ℕ} (a b l : List ℕ) → got tt k ≡ keywordOf a l → got tt m ≡ keywordOf b l → (begins a b || begins b a) ≡ true
+pub two-words : {k m : List ℕ} (a b l : List ℕ) → got tt k ≡ keywordOf a l → got tt m ≡ keywordOf b l → (begins a b || begins b a) ≡ true
 unfolding begins
 two-words [] b l p q = refl
 two-words (x ∷ a) [] l p q = refl

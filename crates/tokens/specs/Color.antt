@@ -1,5 +1,6 @@
 -- A color of the text. Document 01: "A colour: `#` with 3, 4, 6 or 8 hex digits (short digits doubled, alpha 255 if absent), `transparent` (all
 -- four 0), or one of the names" that the table below has.
+-- The code is proved by these definitions, and crate `grammar` proves that they are the grammar.
 -- Assumes nothing.
 use Prim.Native.Nat.{ℕ, _+_, _*_, _-_}
 use Prim.Native.Char.{code}

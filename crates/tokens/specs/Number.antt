@@ -1,6 +1,7 @@
 -- A number of the text. Document 01: "A number: optional sign, then digits, or digits with a point and 1 to 3 digits after it; the digits before
 -- the point may be absent if there is a point. `px`, `%` or `deg` follows at once. A bare number whose digits are all 0 is a length." Its value
 -- is exact and has no bound; it is in thousandths of its unit.
+-- The code is proved by these definitions, and crate `grammar` proves that they are the grammar.
 -- Assumes nothing.
 use Prim.Native.Nat.{ℕ, _+_, _*_, _-_, _^_}
 use Prim.Native.Char.{code}
