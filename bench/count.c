@@ -21,19 +21,18 @@ static void expect(const char *name, uint32_t reply, uint32_t wanted) {
 
 static void count_draw(int direction, int stops) {
     struct picture p = make_picture(COUNT_WIDTH, COUNT_HEIGHT, direction, stops, true);
-    const uint8_t *text = (const uint8_t *)p.text;
     char name[32];
     snprintf(name, sizeof name, "draw %d %d", direction, stops);
     CALLGRIND_TOGGLE_COLLECT;
-    uint32_t reply = avarezhu_draw(text, p.text_length, p.width, p.height, pixels, sizeof pixels);
+    uint32_t reply = avarezhu_draw(p.text, p.text_length, p.width, p.height, pixels, sizeof pixels);
     CALLGRIND_TOGGLE_COLLECT;
     CALLGRIND_DUMP_STATS_AT(name);
     expect(name, reply, AVAREZHU_DONE);
 }
 
 static void count_read(int which) {
-    const uint8_t *text = (const uint8_t *)readings[which].text;
-    size_t length = strlen(readings[which].text);
+    const char *text = readings[which].text;
+    size_t length = strlen(text);
     uint8_t gradient[AVAREZHU_GRADIENT_SIZE];
     char name[32];
     snprintf(name, sizeof name, "read %d", which);

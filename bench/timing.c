@@ -139,8 +139,7 @@ static size_t being_read_length;
 
 static void read_once(void) {
     uint8_t gradient[AVAREZHU_GRADIENT_SIZE];
-    const uint8_t *text = (const uint8_t *)being_read->text;
-    if (avarezhu_read(text, being_read_length, gradient, sizeof gradient) != being_read->reply)
+    if (avarezhu_read(being_read->text, being_read_length, gradient, sizeof gradient) != being_read->reply)
         fail("a reading has another reply than was expected");
 }
 

@@ -17,8 +17,7 @@ static void begin(const struct picture *picture, uint8_t *pixels) {
 }
 
 static void draw(void) {
-    const uint8_t *text = (const uint8_t *)shown->text;
-    uint32_t reply = avarezhu_draw(text, shown->text_length, shown->width, shown->height, target, size);
+    uint32_t reply = avarezhu_draw(shown->text, shown->text_length, shown->width, shown->height, target, size);
     if (reply != AVAREZHU_DONE) {
         fprintf(stderr, "reply %u to %.*s\n", (unsigned)reply, (int)shown->text_length, shown->text);
         exit(1);

@@ -18,25 +18,14 @@ static const char usage[] =
     "premultiplied red, green, blue and alpha of each pixel, row by row from the top.\n"
     "status: 0 PASS, 1 FAIL, 2 the recipe or the box was refused, 3 usage or a file\n";
 
-/* What each reply means, and what would be right. */
-static const char *const meanings[][2] = {
-    {"drawn", ""},
-    {"width or height is not in 1 to 2048", "2048 by 1"},
-    {"the buffer is shorter than the picture", "16 bytes for 4 by 1 pixels"},
-    {"the recipe is longer than 1024 bytes", "one blank where several stand"},
-    {"the recipe is not in the grammar", "linear-gradient(to right, black, white)"},
-    {"a number in the recipe is out of its range", "linear-gradient(45.25deg, red -50%, blue 8192px)"},
-    {"the recipe has more than 16 stops", "16 colors between commas"},
-};
-
 /* One byte more than a recipe or a frame can have: a file that is too long is never taken for one
  * that is not. Of a long recipe 1,025 bytes are handed over, which is enough for reply 3. */
-static uint8_t recipe[AVAREZHU_TEXT_MAX + 1];
-static uint8_t grabbed[4 * AVAREZHU_SIDE_MAX * AVAREZHU_SIDE_MAX + 1];
-static uint8_t expected[4 * AVAREZHU_SIDE_MAX * AVAREZHU_SIDE_MAX];
+static char recipe[AVAREZHU_TEXT_MAX + 1];
+static uint8_t grabbed[AVAREZHU_PIXELS_SIZE(AVAREZHU_SIDE_MAX, AVAREZHU_SIDE_MAX) + 1];
+static uint8_t expected[AVAREZHU_PIXELS_SIZE(AVAREZHU_SIDE_MAX, AVAREZHU_SIDE_MAX)];
 
 /* Reads a file, up to `room` bytes of it. Answers 0 if it cannot be read. */
-static int read_file(const char *name, uint8_t *bytes, size_t room, size_t *length)
+static int read_file(const char *name, void *bytes, size_t room, size_t *length)
 {
     FILE *file = fopen(name, "rb");
     int good = file != NULL;
@@ -67,11 +56,7 @@ static int read_number(const char *word, size_t *number)
 
 static enum status refuse(uint32_t reply)
 {
-    if (reply < sizeof meanings / sizeof *meanings)
-        printf("REFUSED (%u): %s; right is, for example: %s\n", (unsigned)reply, meanings[reply][0],
-               meanings[reply][1]);
-    else
-        printf("REFUSED (%u)\n", (unsigned)reply);
+    printf("REFUSED (%u): %s\n", (unsigned)reply, avarezhu_message(reply));
     return REFUSED;
 }
 

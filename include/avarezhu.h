@@ -117,10 +117,10 @@ static inline const char *avarezhu_message(uint32_t reply)
 #define AVAREZHU_STOPS_MAX 16      /* greatest number of stops */
 
 /* The bytes of a picture in a box that is not too large. */
-#define AVAREZHU_PIXELS_SIZE(width, height) ((size_t)4 * (width) * (height))
+#define AVAREZHU_PIXELS_SIZE(width, height) (4 * (size_t)(width) * (size_t)(height))
 
 /* The bytes of the PNG file of a picture in a box that is not too large. */
-#define AVAREZHU_PNG_SIZE(width, height) ((size_t)63 + ((size_t)6 + (size_t)3 * (width)) * (height))
+#define AVAREZHU_PNG_SIZE(width, height) (63 + (6 + 3 * (size_t)(width)) * (size_t)(height))
 
 /* The stack in bytes that is enough for any call. tests/host/stack.c measures what each call uses. */
 #define AVAREZHU_STACK 819200

@@ -9,7 +9,7 @@
 #include <stdio.h>
 #include <stdlib.h>
 
-static uint8_t text[1 << 16];
+static char text[1 << 16];
 static uint8_t pixels[1 << 20];
 static uint8_t gradient[AVAREZHU_GRADIENT_SIZE];
 static uint8_t stops[AVAREZHU_STOPS_SIZE];

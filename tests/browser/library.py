@@ -19,7 +19,7 @@ CORNERS = [(-1, -1), (1, -1), (-1, 1), (1, 1)]
 def build():
     """The program of draw.c, in target/browser."""
     if not os.path.isfile(ARCHIVE):
-        sys.exit(f"no archive {ARCHIVE}: run rt staticlib avarezhu first")
+        sys.exit(f"no archive {ARCHIVE}: run make first")
     folder = ROOT / "target" / "browser"
     folder.mkdir(parents=True, exist_ok=True)
     program = folder / "draw"

@@ -1,10 +1,11 @@
 /*
- * Calls the six exports with every slice in a mapping of its own, between two pages that may not be
+ * Calls the seven exports with every slice in a mapping of its own, between two pages that may not be
  * touched. What must come back is known from the rules and docs/LAYOUT.md, since the texts and boxes
  * were chosen so; nothing is computed with the library. Ends with status 1 at the first difference.
  */
 #define _DEFAULT_SOURCE
 #include "avarezhu.h"
+#include "png.h"
 
 #include <signal.h>
 #include <stdbool.h>
@@ -16,10 +17,10 @@
 
 #define COUNT(array) (sizeof(array) / sizeof *(array))
 
-enum export { READ, PLACE, PLACE_GRADIENT, DRAW, DRAW_GRADIENT, DRAW_STOPS, EXPORTS };
+enum export { READ, PLACE, PLACE_GRADIENT, DRAW, DRAW_GRADIENT, DRAW_STOPS, PNG, EXPORTS };
 static const char *const export_names[EXPORTS] = {
-    "avarezhu_read", "avarezhu_place",         "avarezhu_place_gradient",
-    "avarezhu_draw", "avarezhu_draw_gradient", "avarezhu_draw_stops",
+    "avarezhu_read",          "avarezhu_place",      "avarezhu_place_gradient", "avarezhu_draw",
+    "avarezhu_draw_gradient", "avarezhu_draw_stops", "avarezhu_png",
 };
 
 /* Where a slice stands. The last two are for slices of 0 bytes only. */
@@ -193,20 +194,23 @@ static void unmap_all(void)
 static uint32_t make(const struct call *c, const struct region *in, const struct region *stops,
                      const struct region *lent)
 {
+    const char *text = (const char *)in->slice;
     switch (c->export) {
     case READ:
-        return avarezhu_read(in->slice, in->length, lent->slice, lent->length);
+        return avarezhu_read(text, in->length, lent->slice, lent->length);
     case PLACE:
-        return avarezhu_place(in->slice, in->length, c->width, c->height, lent->slice, lent->length);
+        return avarezhu_place(text, in->length, c->width, c->height, lent->slice, lent->length);
     case PLACE_GRADIENT:
         return avarezhu_place_gradient(in->slice, in->length, c->width, c->height, lent->slice, lent->length);
     case DRAW:
-        return avarezhu_draw(in->slice, in->length, c->width, c->height, lent->slice, lent->length);
+        return avarezhu_draw(text, in->length, c->width, c->height, lent->slice, lent->length);
     case DRAW_GRADIENT:
         return avarezhu_draw_gradient(in->slice, in->length, c->width, c->height, lent->slice, lent->length);
-    default:
+    case DRAW_STOPS:
         return avarezhu_draw_stops(in->slice, in->length, stops->slice, stops->length, c->width, c->height,
                                    lent->slice, lent->length);
+    default:
+        return avarezhu_png(text, in->length, c->width, c->height, lent->slice, lent->length);
     }
 }
 
@@ -299,6 +303,7 @@ static const struct chart round_one = {
 };
 
 static uint8_t picture[4 * AVAREZHU_SIDE_MAX * AVAREZHU_SIDE_MAX];
+static uint8_t file[63 + (6 + 3 * AVAREZHU_SIDE_MAX) * AVAREZHU_SIDE_MAX];
 
 static struct bytes paint(size_t width, size_t height, size_t edge, const uint8_t *before, const uint8_t *after)
 {
@@ -306,6 +311,12 @@ static struct bytes paint(size_t width, size_t height, size_t edge, const uint8_
     for (size_t i = 0; i < width * height; i++)
         memcpy(picture + 4 * i, i % width < edge ? before : after, 4);
     return b;
+}
+
+/* The file of a picture that is known. */
+static struct bytes file_of(struct bytes pixels, size_t width, size_t height)
+{
+    return (struct bytes){file, png_file(file, pixels.at, width, height)};
 }
 
 /* ---- Boxes and lengths ---- */
@@ -319,6 +330,8 @@ static const struct box boxes[] = {
     {0, 1}, {1, 0}, {0, 0}, {2049, 1}, {1, 2049}, {SIZE_MAX, 1}, {1, SIZE_MAX}, {SIZE_MAX, SIZE_MAX},
     /* 4·W·H wraps to 0, to 0 and to 4 */
     {SIZE_MAX / 4 + 1, 1}, {SIZE_MAX / 2 + 1, 2}, {SIZE_MAX / 4 + 2, 1},
+    /* 63 + (6 + 3·W)·H wraps to 63 */
+    {SIZE_MAX - 1, 1}, {2, SIZE_MAX / 4 + 1},
 #if SIZE_MAX > UINT32_MAX
     /* 1 by 1 and 4 by 1, if cut to 32 bits */
     {(size_t)UINT32_MAX + 2, 1}, {(size_t)UINT32_MAX + 5, (size_t)UINT32_MAX + 2},
@@ -336,13 +349,23 @@ static uint32_t lower(uint32_t a, uint32_t b)
     return a == 0 || (b != 0 && b < a) ? b : a;
 }
 
+/* The size of the answer; in a box that does not fit, some number. */
+static size_t needed(enum export e, struct box box)
+{
+    switch (e) {
+    case READ: return 320;
+    case PLACE:
+    case PLACE_GRADIENT: return 132;
+    case PNG: return box_fits(box) ? 63 + (6 + 3 * box.width) * box.height : 63;
+    default: return box_fits(box) ? 4 * box.width * box.height : 16;
+    }
+}
+
 /* Tries a call in a box with each length lent; `own` is the reply to what is handed in. */
 static void try_lengths(struct call c, struct box box, uint32_t own)
 {
-    size_t need = c.export == READ ? 320 : c.export <= PLACE_GRADIENT ? 132 : 4 * box.width * box.height;
+    size_t need = needed(c.export, box);
     bool fits = c.export == READ || box_fits(box);
-    if (!fits)
-        need = 16;
     const size_t lengths[] = {0, 1, need - 1, need, need + 1};
     c.width = box.width;
     c.height = box.height;
@@ -433,6 +456,10 @@ static void try_boxed(struct text t, struct box box)
     if (t.chart && box_fits(box))
         c.answer = paint(box.width, box.height, t.chart->edge, t.chart->before, t.chart->after);
     try_lengths(c, box, t.own);
+    c.export = PNG;
+    if (t.chart && box_fits(box))
+        c.answer = file_of(c.answer, box.width, box.height);
+    try_lengths(c, box, t.own);
 }
 
 static void try_texts(void)
@@ -458,13 +485,12 @@ static void try_prefixes(void)
         TEXT("linear-gradient(" EIGHT ", " EIGHT ", red)"),
         TEXT("RADIAL-GRADIENT(\tCIRCLE\n,\rWHITE\f0PX,SILVER 100%\t)"),
     };
-    static const size_t rooms[EXPORTS] = {[READ] = 320, [PLACE] = 132, [DRAW] = 4 * 7 * 5};
-    static const enum export exports[] = {READ, PLACE, DRAW};
+    static const enum export exports[] = {READ, PLACE, DRAW, PNG};
     for (size_t i = 0; i < COUNT(whole); i++)
         for (size_t length = 0; length < whole[i].length; length++)
             for (size_t e = 0; e < COUNT(exports); e++) {
                 struct call c = {.export = exports[e], .in = {whole[i].at, length}, .width = 7, .height = 5};
-                c.lent = rooms[exports[e]];
+                c.lent = needed(exports[e], (struct box){7, 5});
                 c.reply = 4;
                 try_call(&c);
             }
@@ -681,6 +707,14 @@ static const uint8_t p5[AVAREZHU_STOPS_SIZE] = {
     0, 0, 255, 255, 0x00, 0x32, 0, 0,       /* 12800 */
 };
 
+/* One red pixel, 1 by 1; the zlib stream was made by zlib itself. */
+static const uint8_t red_dot[72] = {
+    137, 80, 78, 71, 13, 10, 26, 10,
+    0, 0, 0, 13, 'I', 'H', 'D', 'R', 0, 0, 0, 1, 0, 0, 0, 1, 8, 2, 0, 0, 0, 144, 119, 83, 222,
+    0, 0, 0, 15, 'I', 'D', 'A', 'T', 120, 1, 1, 4, 0, 251, 255, 0, 255, 0, 0, 3, 1, 1, 0, 141, 29, 229, 130,
+    0, 0, 0, 0, 'I', 'E', 'N', 'D', 174, 66, 96, 130,
+};
+
 static struct bytes of_text(const char *text)
 {
     return (struct bytes){(const uint8_t *)text, strlen(text)};
@@ -688,13 +722,20 @@ static struct bytes of_text(const char *text)
 
 static void try_worked(void)
 {
-    struct call c = {.export = DRAW};
+    struct call c = {.width = 0};
     for (size_t i = 0; i < COUNT(drawn); i++) {
         struct box box = {drawn[i].width, drawn[i].height};
         c.in = of_text(drawn[i].text);
         c.answer = (struct bytes){drawn[i].pixels, 4 * box.width * box.height};
+        c.export = DRAW;
+        try_lengths(c, box, 0);
+        c.answer = file_of(c.answer, box.width, box.height);
+        c.export = PNG;
         try_lengths(c, box, 0);
     }
+    c.in = of_text("linear-gradient(red, red)");
+    c.answer = (struct bytes){red_dot, sizeof red_dot};
+    try_lengths(c, (struct box){1, 1}, 0);
     c.export = PLACE;
     c.in = of_text("linear-gradient(to right, red 40%, white, black, blue)");
     c.answer = (struct bytes){p4, sizeof p4};
@@ -704,12 +745,9 @@ static void try_worked(void)
     try_lengths(c, (struct box){200, 1}, 0);
 }
 
-/* The largest picture, whole: red up to the middle, then blue. */
-static void try_largest(void)
+/* With room for the answer, and with a byte less. */
+static void try_room(struct call c)
 {
-    struct call c = {.export = DRAW, .width = 2048, .height = 2048};
-    c.in = of_text("linear-gradient(90deg, red 1024px, blue 1024px)");
-    c.answer = paint(2048, 2048, 1024, angled.before, angled.after);
     c.lent = c.answer.length;
     try_call(&c);
     c.lent--;
@@ -717,12 +755,22 @@ static void try_largest(void)
     try_call(&c);
 }
 
+/* The largest picture, whole: red up to the middle, then blue. */
+static void try_largest(void)
+{
+    struct call c = {.export = DRAW, .width = 2048, .height = 2048};
+    c.in = of_text("linear-gradient(90deg, red 1024px, blue 1024px)");
+    c.answer = paint(2048, 2048, 1024, angled.before, angled.after);
+    try_room(c);
+    c.export = PNG;
+    c.answer = file_of(c.answer, 2048, 2048);
+    try_room(c);
+}
+
 /* ---- The header's structs ---- */
 
 static void check_structs(void)
 {
-    if (*(const uint8_t *)&(const uint16_t){1} != 1)
-        return;
     avarezhu_gradient g = {.count = 2, .shape = AVAREZHU_CIRCLE, .size_unit = AVAREZHU_LENGTH, .size = 3000};
     g.x_unit = AVAREZHU_PERCENTAGE, g.x = 25000, g.y_unit = AVAREZHU_LENGTH, g.y = -1500;
     g.stops[0] = (avarezhu_stop){.red = 16, .green = 32, .blue = 48, .alpha = 64, .unit = AVAREZHU_NONE};
@@ -742,9 +790,17 @@ static void check_structs(void)
         fail("avarezhu_stops does not overlay its layout");
 }
 
-static void print_counts(void)
+/* Reading knows no box, and only texts are too long. */
+static bool may_reply(enum export e, int reply)
+{
+    return reply == 1 ? e != READ : reply != 3 || !takes_gradient(e);
+}
+
+/* Answers whether every reply was given. */
+static bool print_counts(void)
 {
     unsigned long all = 0;
+    bool complete = true;
     printf("%-24s", "calls by reply");
     for (int reply = 0; reply < 7; reply++)
         printf("%7d", reply);
@@ -753,9 +809,11 @@ static void print_counts(void)
         for (int reply = 0; reply < 7; reply++) {
             printf("%7lu", made[e][reply]);
             all += made[e][reply];
+            complete &= made[e][reply] > 0 || !may_reply((enum export)e, reply);
         }
     }
     printf("\n%lu calls, every byte as expected\n", all);
+    return complete;
 }
 
 int main(void)
@@ -772,6 +830,8 @@ int main(void)
     try_zero_words();
     try_lists();
     try_largest();
-    print_counts();
-    return 0;
+    if (print_counts())
+        return 0;
+    fputs("guard: a reply was never given\n", stderr);
+    return 1;
 }

@@ -2,13 +2,15 @@
  * Measures how much stack each export uses: it runs on a thread whose stack was painted, and the
  * lowest byte that lost its paint tells how deep the call went. Fails if that is more than
  * AVAREZHU_STACK. Then makes every call again, on no paint, with AVAREZHU_STACK and a small margin
- * to run in.
+ * to run in, and at last the largest pictures on a thread as a host makes it, with
+ * AVAREZHU_THREAD_STACK. Every reply must be the right one.
  */
 #define _DEFAULT_SOURCE
 #include "avarezhu.h"
 
 #include <pthread.h>
 #include <signal.h>
+#include <stdbool.h>
 #include <stdio.h>
 #include <stdlib.h>
 #include <string.h>
@@ -26,10 +28,10 @@ enum {
 
 enum paint { NO_PAINT, PAINT = 0x5a, OTHER_PAINT = 0xa5 };
 
-enum export { READ, PLACE, PLACE_GRADIENT, DRAW, DRAW_GRADIENT, DRAW_STOPS, EXPORTS };
+enum export { READ, PLACE, PLACE_GRADIENT, DRAW, DRAW_GRADIENT, DRAW_STOPS, PNG, EXPORTS };
 static const char *const export_names[EXPORTS] = {
-    "avarezhu_read", "avarezhu_place",         "avarezhu_place_gradient",
-    "avarezhu_draw", "avarezhu_draw_gradient", "avarezhu_draw_stops",
+    "avarezhu_read",          "avarezhu_place",      "avarezhu_place_gradient", "avarezhu_draw",
+    "avarezhu_draw_gradient", "avarezhu_draw_stops", "avarezhu_png",
 };
 
 #define FOUR(a) a ", " a ", " a ", " a
@@ -77,46 +79,82 @@ struct job {
     enum export export;
     const char *kind;
     struct box box;
-    uint8_t text[AVAREZHU_TEXT_MAX + 1];
+    char text[AVAREZHU_TEXT_MAX + 1];
     size_t text_length;
+    uint32_t own; /* the reply to the text */
     uint8_t gradient[AVAREZHU_GRADIENT_SIZE];
     uint8_t stops[AVAREZHU_STOPS_SIZE];
     size_t lent;
     enum paint paint;
     uint8_t *low;
-    size_t depth, own; /* below and above the frame that makes the call */
+    uint32_t reply;
+    size_t below, above; /* stack used below and above the frame that makes the call */
 };
 
 static uint8_t lent[4 * 2048 * 2048];
 static uint8_t *stack;
 static size_t usable;
 static const struct job *current;
-static size_t deepest[EXPORTS], own_most;
+static size_t deepest[EXPORTS], most_above;
 static const char *where[EXPORTS];
 
-static void call(const struct job *j)
+static uint32_t call(const struct job *j)
 {
     size_t width = j->box.width, height = j->box.height;
     switch (j->export) {
     case READ:
-        avarezhu_read(j->text, j->text_length, lent, j->lent);
-        break;
+        return avarezhu_read(j->text, j->text_length, lent, j->lent);
     case PLACE:
-        avarezhu_place(j->text, j->text_length, width, height, lent, j->lent);
-        break;
+        return avarezhu_place(j->text, j->text_length, width, height, lent, j->lent);
     case PLACE_GRADIENT:
-        avarezhu_place_gradient(j->gradient, sizeof j->gradient, width, height, lent, j->lent);
-        break;
+        return avarezhu_place_gradient(j->gradient, sizeof j->gradient, width, height, lent, j->lent);
     case DRAW:
-        avarezhu_draw(j->text, j->text_length, width, height, lent, j->lent);
-        break;
+        return avarezhu_draw(j->text, j->text_length, width, height, lent, j->lent);
     case DRAW_GRADIENT:
-        avarezhu_draw_gradient(j->gradient, sizeof j->gradient, width, height, lent, j->lent);
-        break;
+        return avarezhu_draw_gradient(j->gradient, sizeof j->gradient, width, height, lent, j->lent);
+    case DRAW_STOPS:
+        return avarezhu_draw_stops(j->gradient, sizeof j->gradient, j->stops, sizeof j->stops, width, height, lent,
+                                   j->lent);
     default:
-        avarezhu_draw_stops(j->gradient, sizeof j->gradient, j->stops, sizeof j->stops, width, height, lent,
-                            j->lent);
+        return avarezhu_png(j->text, j->text_length, width, height, lent, j->lent);
     }
+}
+
+static bool fits(struct box b)
+{
+    return b.width >= 1 && b.width <= 2048 && b.height >= 1 && b.height <= 2048;
+}
+
+/* The bytes that a call needs; in a box that does not fit, some number. */
+static size_t needed(enum export e, struct box b)
+{
+    switch (e) {
+    case READ: return AVAREZHU_GRADIENT_SIZE;
+    case PLACE:
+    case PLACE_GRADIENT: return AVAREZHU_STOPS_SIZE;
+    case PNG: return fits(b) ? AVAREZHU_PNG_SIZE(b.width, b.height) : 80;
+    default: return fits(b) ? AVAREZHU_PIXELS_SIZE(b.width, b.height) : 16;
+    }
+}
+
+/* Gradient and stops are zeros where the text was refused, which gets 4. */
+static uint32_t right_reply(const struct job *j)
+{
+    bool takes_text = j->export == READ || j->export == PLACE || j->export == DRAW || j->export == PNG;
+    if (j->export != READ && !fits(j->box))
+        return AVAREZHU_BAD_BOX;
+    if (j->lent < needed(j->export, j->box))
+        return AVAREZHU_NO_ROOM;
+    return takes_text || j->own == AVAREZHU_DONE ? j->own : AVAREZHU_MALFORMED;
+}
+
+static void check(const struct job *j, uint32_t reply)
+{
+    if (reply == right_reply(j))
+        return;
+    fprintf(stderr, "stack: %s, %s, %zu by %zu, %zu bytes lent: reply %u, not %u\n", export_names[j->export], j->kind,
+            j->box.width, j->box.height, j->lent, (unsigned)reply, (unsigned)right_reply(j));
+    exit(1);
 }
 
 static void on_fault(int signal, siginfo_t *info, void *context)
@@ -152,10 +190,10 @@ static void *thread(void *argument)
     sigaltstack(&(stack_t){.ss_sp = alternate, .ss_size = sizeof alternate}, NULL);
     if (j->paint != NO_PAINT)
         memset(j->low, j->paint, (size_t)(frame - j->low) - NEAR);
-    call(j);
+    j->reply = call(j);
     if (j->paint != NO_PAINT)
-        j->depth = (size_t)(frame - unpainted(j->low, j->paint));
-    j->own = (size_t)(stack + FULL - frame);
+        j->below = (size_t)(frame - unpainted(j->low, j->paint));
+    j->above = (size_t)(stack + FULL - frame);
     return NULL;
 }
 
@@ -174,30 +212,29 @@ static void run(struct job *j)
     pthread_attr_t attributes;
     current = j;
     j->low = stack + FULL - usable;
-    j->depth = 0;
+    j->below = 0;
     need(pthread_attr_init(&attributes), "pthread_attr_init");
     need(pthread_attr_setstack(&attributes, stack, FULL), "pthread_attr_setstack");
     need(pthread_create(&id, &attributes, thread, j), "pthread_create");
     need(pthread_join(id, NULL), "pthread_join");
     pthread_attr_destroy(&attributes);
-    if (j->depth > deepest[j->export]) {
-        deepest[j->export] = j->depth;
+    check(j, j->reply);
+    if (j->below > deepest[j->export]) {
+        deepest[j->export] = j->below;
         where[j->export] = j->kind;
     }
-    if (j->own > own_most)
-        own_most = j->own;
+    if (j->above > most_above)
+        most_above = j->above;
 }
 
 /* The exports from this one on with this text and box, with room enough and with 1 byte. */
 static unsigned run_all(struct job *j, enum export first)
 {
-    size_t width = j->box.width, height = j->box.height;
-    size_t picture = width <= 2048 && height <= 2048 ? 4 * width * height : 16;
     unsigned runs = 0;
     for (int e = (int)first; e < EXPORTS; e++)
         for (int k = 0; k < 2; k++, runs++) {
             j->export = (enum export)e;
-            j->lent = k ? 1 : e == READ ? sizeof j->gradient : e <= PLACE_GRADIENT ? sizeof j->stops : picture;
+            j->lent = k ? 1 : needed(j->export, j->box);
             run(j);
         }
     return runs;
@@ -211,12 +248,13 @@ static void prepare(struct job *j, const struct recipe *r, struct box box)
     memset(j->text, ' ', sizeof j->text);
     memcpy(j->text, r->text, strlen(r->text));
     j->text_length = r->length != 0 ? r->length : strlen(r->text);
-    uint32_t reply = avarezhu_read(j->text, j->text_length, j->gradient, sizeof j->gradient);
-    if (reply != r->reply) {
-        fprintf(stderr, "stack: %s: reply %u, not %u\n", r->kind, reply, r->reply);
-        exit(1);
-    }
-    avarezhu_place(j->text, j->text_length, box.width, box.height, j->stops, sizeof j->stops);
+    j->own = r->reply;
+    j->export = READ;
+    j->lent = sizeof j->gradient;
+    check(j, avarezhu_read(j->text, j->text_length, j->gradient, j->lent));
+    j->export = PLACE;
+    j->lent = sizeof j->stops;
+    check(j, avarezhu_place(j->text, j->text_length, box.width, box.height, j->stops, j->lent));
 }
 
 /* Reading knows no box: it is run in the first only. */
@@ -238,12 +276,49 @@ static unsigned run_recipes(enum paint paint)
 /* Symbols of shared libraries are looked up at their first use, which takes stack of its own. */
 static void warm_up(void)
 {
-    struct job j = {.lent = 4, .box = {1, 1}};
-    prepare(&j, &recipes[0], j.box);
+    struct job j;
+    prepare(&j, &recipes[0], boxes[0]);
     for (int e = 0; e < EXPORTS; e++) {
         j.export = (enum export)e;
-        call(&j);
+        j.lent = needed(j.export, j.box);
+        check(&j, call(&j));
     }
+}
+
+/* ---- A thread as a host makes it ---- */
+
+/* Every export with every recipe, in the largest box. */
+static void *all_calls(void *argument)
+{
+    static uint8_t alternate[1 << 16];
+    static struct job j;
+    unsigned *runs = argument;
+    sigaltstack(&(stack_t){.ss_sp = alternate, .ss_size = sizeof alternate}, NULL);
+    current = &j;
+    for (size_t i = 0; i < COUNT(recipes); i++) {
+        prepare(&j, &recipes[i], (struct box){2048, 2048});
+        for (int e = 0; e < EXPORTS; e++, ++*runs) {
+            j.export = (enum export)e;
+            j.lent = needed(j.export, j.box);
+            check(&j, call(&j));
+        }
+    }
+    return NULL;
+}
+
+/* The stack comes from the C library, which takes its own part of it. */
+static unsigned run_on_thread(size_t bytes)
+{
+    pthread_t id;
+    pthread_attr_t attributes;
+    unsigned runs = 0;
+    usable = bytes;
+    need(pthread_attr_init(&attributes), "pthread_attr_init");
+    need(pthread_attr_setstacksize(&attributes, bytes), "pthread_attr_setstacksize");
+    need(pthread_create(&id, &attributes, all_calls, &runs), "pthread_create");
+    need(pthread_join(id, NULL), "pthread_join");
+    pthread_attr_destroy(&attributes);
+    return runs;
 }
 
 static void make_stack(void)
@@ -289,6 +364,8 @@ int main(void)
     use(AVAREZHU_STACK + MARGIN);
     runs = run_recipes(NO_PAINT);
     printf("%u calls again within AVAREZHU_STACK = %d and a margin of %zu, %zu of it for the thread itself\n", runs,
-           AVAREZHU_STACK, usable - AVAREZHU_STACK, own_most);
+           AVAREZHU_STACK, usable - AVAREZHU_STACK, most_above);
+    runs = run_on_thread(AVAREZHU_THREAD_STACK);
+    printf("%u calls in 2,048 by 2,048 pixels on a thread of AVAREZHU_THREAD_STACK = %d\n", runs, AVAREZHU_THREAD_STACK);
     return 0;
 }

@@ -3,11 +3,12 @@
 
 use crate::chance::Chance;
 use crate::compare::Compare;
-use crate::expected::{answer, box_fits, needed, Answer};
+use crate::expected::{answer, box_fits, file, needed, Answer};
 use crate::gradient::Gradient;
 use crate::layout::{gradient_bytes, stops_bytes, take_gradient, take_stops};
 use crate::layouts::{damage_gradient, damage_stops, fill_places, random_gradient, random_stops};
 use crate::library::{Call, Export};
+use crate::png::shows_gray;
 use crate::reading::{read, LONGEST_TEXT};
 
 pub type Area = (usize, usize);
@@ -104,6 +105,10 @@ pub fn text_case(compare: &mut Compare, chance: &mut Chance, text: &[u8], area: 
         let right = answer(export, text, &[], area);
         each_length(compare, chance, export, &handed, &right)?;
         answers.push(right);
+    }
+    each_length(compare, chance, Export::Png, &handed, &file(&answers[2], area))?;
+    if answers[2].as_ref().is_ok_and(|pixels| shows_gray(pixels, area)) {
+        compare.counts.clause("file through which a gray square shows");
     }
     if let Some(gradient) = gradient {
         handed_on(compare, chance, &gradient, area, &answers)?;

@@ -2,9 +2,10 @@
 
 use std::collections::BTreeMap;
 
+use crate::expected::needed;
 use crate::library::{Call, Export, EXPORTS};
 
-const CLAUSES: [&str; 33] = [
+const CLAUSES: [&str; 39] = [
     "no direction", "side", "corner, horizontal word first", "corner, vertical word first",
     "angle", "angle below 0", "angle above 360",
     "circle alone", "closest-side", "closest-corner", "farthest-side", "farthest-corner",
@@ -13,10 +14,12 @@ const CLAUSES: [&str; 33] = [
     "at two words, vertical first", "at word and number", "at number and word", "at two numbers",
     "stop without position", "stop with length", "stop with percentage", "16 stops",
     "text of 1,024 bytes", "whole picture of 2,048 by 2,048", "every byte from 0 to 255",
+    "file through which a gray square shows", "file of one row", "file of 2,048 by 2,048",
+    "file, a byte too little lent", "file, as much lent as it needs", "file, more lent than it needs",
 ];
 
 pub struct Counts {
-    replies: [[u64; 7]; 6],
+    replies: [[u64; 7]; 7],
     pixels: u64,
     pub texts: u64,
     clauses: BTreeMap<&'static str, u64>,
@@ -26,7 +29,7 @@ pub struct Counts {
 fn replies_of(export: Export) -> &'static [usize] {
     match export {
         Export::Read => &[0, 2, 3, 4, 5, 6],
-        Export::Place | Export::Draw => &[0, 1, 2, 3, 4, 5, 6],
+        Export::Place | Export::Draw | Export::Png => &[0, 1, 2, 3, 4, 5, 6],
         _ => &[0, 1, 2, 4, 5, 6],
     }
 }
@@ -34,7 +37,7 @@ fn replies_of(export: Export) -> &'static [usize] {
 impl Counts {
     pub fn new() -> Counts {
         let clauses = CLAUSES.iter().map(|name| (*name, 0)).collect();
-        Counts { replies: [[0; 7]; 6], pixels: 0, texts: 0, clauses, bytes: [false; 256] }
+        Counts { replies: [[0; 7]; 7], pixels: 0, texts: 0, clauses, bytes: [false; 256] }
     }
 
     pub fn call(&mut self, call: &Call, reply: u32) {
@@ -44,6 +47,28 @@ impl Counts {
         }
         if reply == 0 && call.export.draws() && call.area == (2048, 2048) {
             self.clause("whole picture of 2,048 by 2,048");
+        }
+        if call.export == Export::Png {
+            self.file(call, reply);
+        }
+    }
+
+    fn file(&mut self, call: &Call, reply: u32) {
+        if reply == 2 && call.lent + 1 == needed(call.export, call.area) {
+            self.clause("file, a byte too little lent");
+        }
+        if reply != 0 {
+            return;
+        }
+        match call.lent == needed(call.export, call.area) {
+            true => self.clause("file, as much lent as it needs"),
+            false => self.clause("file, more lent than it needs"),
+        }
+        if call.area.1 == 1 {
+            self.clause("file of one row");
+        }
+        if call.area == (2048, 2048) {
+            self.clause("file of 2,048 by 2,048");
         }
     }
 
@@ -70,7 +95,7 @@ impl Counts {
         println!("{} texts, {} pixels compared", self.texts, self.pixels);
         println!("accepted texts, by clause:");
         for name in CLAUSES {
-            println!("  {:<34}{:>9}", name, self.clauses[name]);
+            println!("  {:<40}{:>9}", name, self.clauses[name]);
         }
     }
 

@@ -6,6 +6,7 @@ use crate::layout::{gradient_bytes, stops_bytes, take_gradient, take_stops, GRAD
 use crate::library::{Call, Export};
 use crate::pixels::picture;
 use crate::placing::{place, Placed};
+use crate::png;
 use crate::reading::read;
 
 /// The bytes of an accepted call, or a reply other than 0 and 2, if the lent slice is long enough.
@@ -24,11 +25,12 @@ fn judge_box(area: (usize, usize)) -> Result<(), u32> {
     }
 }
 
-/// The size that the lent slice must have; for pixels only in a box that fits.
+/// The size that the lent slice must have; for pictures only in a box that fits.
 pub fn needed(export: Export, area: (usize, usize)) -> usize {
     match export {
         Export::Read => GRADIENT_BYTES,
         Export::Place | Export::PlaceGradient => STOPS_BYTES,
+        Export::Png => 63 + (6 + 3 * area.0) * area.1,
         _ => 4 * area.0 * area.1,
     }
 }
@@ -41,12 +43,18 @@ fn drawn(gradient: &Gradient, stops: &[Placed], area: (usize, usize)) -> Answer 
     Ok(picture(&Grid::new(&gradient.shape, area), stops))
 }
 
+/// The file of a picture that was drawn.
+pub fn file(drawn: &Answer, area: (usize, usize)) -> Answer {
+    drawn.as_ref().map(|pixels| png::file(pixels, area)).map_err(|reply| *reply)
+}
+
 pub fn answer(export: Export, first: &[u8], second: &[u8], area: (usize, usize)) -> Answer {
     if export != Export::Read {
         judge_box(area)?;
     }
     let gradient = match export {
         Export::DrawStops => return drawn_stops(first, second, area),
+        Export::Png => return file(&answer(Export::Draw, first, second, area), area),
         _ if export.takes_text() => read(first)?.gradient,
         _ => take_gradient(first)?,
     };

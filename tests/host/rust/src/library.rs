@@ -1,4 +1,4 @@
-//! The six exports of the archive.
+//! The seven exports of the archive.
 
 #[derive(Clone, Copy, PartialEq, Debug)]
 pub enum Export {
@@ -8,15 +8,17 @@ pub enum Export {
     Draw,
     DrawGradient,
     DrawStops,
+    Png,
 }
 
-pub const EXPORTS: [Export; 6] = [
+pub const EXPORTS: [Export; 7] = [
     Export::Read,
     Export::Place,
     Export::PlaceGradient,
     Export::Draw,
     Export::DrawGradient,
     Export::DrawStops,
+    Export::Png,
 ];
 
 impl Export {
@@ -28,15 +30,17 @@ impl Export {
             Export::Draw => "avarezhu_draw",
             Export::DrawGradient => "avarezhu_draw_gradient",
             Export::DrawStops => "avarezhu_draw_stops",
+            Export::Png => "avarezhu_png",
         }
     }
 
     pub fn takes_text(self) -> bool {
-        matches!(self, Export::Read | Export::Place | Export::Draw)
+        matches!(self, Export::Read | Export::Place | Export::Draw | Export::Png)
     }
 
+    /// Whether the answer is a picture, as bytes or as a file.
     pub fn draws(self) -> bool {
-        matches!(self, Export::Draw | Export::DrawGradient | Export::DrawStops)
+        matches!(self, Export::Draw | Export::DrawGradient | Export::DrawStops | Export::Png)
     }
 }
 
@@ -57,6 +61,9 @@ extern "C" {
     fn avarezhu_draw_stops(
         gradient: *const u8, gradient_len: usize, stops: *const u8, stops_len: usize,
         width: usize, height: usize, pixels: *mut u8, pixels_len: usize,
+    ) -> u32;
+    fn avarezhu_png(
+        text: *const u8, text_len: usize, width: usize, height: usize, png: *mut u8, png_len: usize,
     ) -> u32;
 }
 
@@ -83,6 +90,7 @@ pub fn make(call: &Call, first: *const u8, second: *const u8, out: *mut u8) -> u
             Export::DrawStops => {
                 avarezhu_draw_stops(first, len, second, call.second.len(), width, height, out, lent)
             }
+            Export::Png => avarezhu_png(first, len, width, height, out, lent),
         }
     }
 }

@@ -14,6 +14,7 @@ mod library;
 mod pictures;
 mod pixels;
 mod placing;
+mod png;
 mod reading;
 mod report;
 mod sines;

@@ -8,7 +8,7 @@ use crate::reading::read;
 
 const FULL: (usize, usize) = (2048, 2048);
 
-const PICTURES: [(&str, Export, (usize, usize)); 14] = [
+const PICTURES: [(&str, Export, (usize, usize)); 17] = [
     ("linear-gradient(37.25deg, red, white 30%, blue)", Export::Draw, FULL),
     ("linear-gradient(to top left, black, white)", Export::Draw, FULL),
     ("linear-gradient(to left, #f008, lime 20%, transparent)", Export::Draw, FULL),
@@ -25,6 +25,9 @@ const PICTURES: [(&str, Export, (usize, usize)); 14] = [
     ("linear-gradient(to bottom left, fuchsia, maroon 12%, green)", Export::Draw, (2048, 1531)),
     ("linear-gradient(3599.75deg, #fedc, #0123)", Export::DrawGradient, (1021, 2048)),
     ("radial-gradient(circle closest-corner at 200% 1000%, red, blue, white)", Export::Draw, (2048, 999)),
+    ("linear-gradient(200.5deg, #f008, #0f0c 40%, transparent 70%, blue)", Export::Png, FULL),
+    ("radial-gradient(circle at 30.3% 41.7%, #fff0, #0008 30%, #ffff 61%)", Export::Png, FULL),
+    ("linear-gradient(to right, transparent, #12345678)", Export::Png, (2047, 1033)),
 ];
 
 pub fn all(compare: &mut Compare) -> Result<(), String> {

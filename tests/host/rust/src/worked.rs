@@ -8,6 +8,7 @@ use crate::gradient::Amount;
 use crate::grid::{units, Grid};
 use crate::layout::take_stops;
 use crate::library::{Call, Export};
+use crate::png::{adler, crc, file};
 use crate::reading::read;
 use crate::sines::table_is_sound;
 
@@ -31,6 +32,13 @@ const PLACED: [(&str, &str, Area, &[i64]); 9] = [
     ("P10", "linear-gradient(to right, red -0.01px, white 0.01px, blue 33.333%)", (200, 1), &[-1, 0, 4266]),
     ("closest-corner", "radial-gradient(circle closest-corner at 3px 4px, red, blue)", (20, 20), &[0, 320]),
     ("a radius of 0", "radial-gradient(0px, red -10%, blue, lime 500%)", (3, 3), &[0, 0, 0]),
+];
+
+/// The file of one red pixel; its zlib stream was made by zlib itself.
+const RED_DOT: [u8; 72] = [
+    137, 80, 78, 71, 13, 10, 26, 10, 0, 0, 0, 13, 73, 72, 68, 82, 0, 0, 0, 1, 0, 0, 0, 1, 8, 2, 0, 0, 0, 144, 119, 83,
+    222, 0, 0, 0, 15, 73, 68, 65, 84, 120, 1, 1, 4, 0, 251, 255, 0, 255, 0, 0, 3, 1, 1, 0, 141, 29, 229, 130, 0, 0, 0,
+    0, 73, 69, 78, 68, 174, 66, 96, 130,
 ];
 
 const SIXTEEN: &str = "red,red,red,red,red,red,red,red,red,red,red,red,red,red,red,red";
@@ -74,6 +82,9 @@ pub fn model() -> Result<(), String> {
     same("0.01px", 0, units(Amount::Length(10), 0))?;
     same("-0.01px", -1, units(Amount::Length(-10), 0))?;
     same("33.333% of 12,800", 4266, units(Amount::Percentage(33_333), 12_800))?;
+    same("the CRC-32 of 123456789", 0xCBF4_3926, crc(b"123456789"))?;
+    same("the Adler-32 of Wikipedia", 0x11E6_0398, adler(b"Wikipedia"))?;
+    same("the file of a red pixel", RED_DOT.to_vec(), file(&[255, 0, 0, 255], (1, 1)))?;
     for (name, text, area, bytes) in DRAWN {
         same(name, Ok(bytes.to_vec()), answer(Export::Draw, text.as_bytes(), &[], area))?;
     }
