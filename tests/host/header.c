@@ -49,7 +49,8 @@ static void check_sizes(void)
 {
     const short side = 2048;
     const unsigned char one = 1;
-    expect(AVAREZHU_PIXELS_SIZE(side, side) == 16777216 && AVAREZHU_PIXELS_SIZE(one, one + 1) == 8, "AVAREZHU_PIXELS_SIZE");
+    expect(AVAREZHU_PIXELS_SIZE(side, side) == 16777216 && AVAREZHU_PIXELS_SIZE(one, one + 1) == 8,
+           "AVAREZHU_PIXELS_SIZE");
     expect(AVAREZHU_PNG_SIZE(side, side) == 12595263 && AVAREZHU_PNG_SIZE(one, one) == 72, "AVAREZHU_PNG_SIZE");
     expect(sizeof(AVAREZHU_PIXELS_SIZE(1, 1)) == sizeof(size_t) && sizeof(AVAREZHU_PNG_SIZE(1, 1)) == sizeof(size_t),
            "a size is no size_t");

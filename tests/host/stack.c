@@ -366,6 +366,7 @@ int main(void)
     printf("%u calls again within AVAREZHU_STACK = %d and a margin of %zu, %zu of it for the thread itself\n", runs,
            AVAREZHU_STACK, usable - AVAREZHU_STACK, most_above);
     runs = run_on_thread(AVAREZHU_THREAD_STACK);
-    printf("%u calls in 2,048 by 2,048 pixels on a thread of AVAREZHU_THREAD_STACK = %d\n", runs, AVAREZHU_THREAD_STACK);
+    printf("%u calls in 2,048 by 2,048 pixels on a thread of AVAREZHU_THREAD_STACK = %d\n", runs,
+           AVAREZHU_THREAD_STACK);
     return 0;
 }
