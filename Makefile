@@ -66,7 +66,7 @@ uninstall:
 # The same bytes from the same commit: names in order, one owner, and the time of the last commit (or SOURCE_DATE_EPOCH).
 dist: $(program)
 	@set -e; name=avarezhu-$(version)-x86_64-linux; prefix='$${pcfiledir}/../..' to=target/dist/$$name; \
-	when=$${SOURCE_DATE_EPOCH:-$$(git log -1 --format=%ct)}; \
+	when=$${SOURCE_DATE_EPOCH:-$$(git log -1 --format=%ct 2>/dev/null || echo 0)}; \
 	rm -rf target/dist; mkdir -p "$$to/samples"; $(put); \
 	cp -R README.md docs examples "$$to"; cp samples/*.txt "$$to/samples"; \
 	(cd "$$to" && find * -type f | LC_ALL=C sort | xargs sha256sum >../SHA256SUMS && mv ../SHA256SUMS .); \
