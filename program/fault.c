@@ -65,7 +65,6 @@ static struct fault *note_in_item(struct findings *f, uint32_t reply, struct sli
 
 /* ---- numbers out of range */
 
-
 /* The reply with 0 in the place of the number in `word`. */
 static uint32_t reply_with_zero(const struct outline *o, size_t index, struct slice item, struct slice word)
 {
