@@ -33,9 +33,10 @@
 #include <stddef.h>
 #include <stdint.h>
 
-/* The version, as a number that grows (10,000 for 1.0.0) and as a string. */
-#define AVAREZHU_VERSION 10000
-#define AVAREZHU_VERSION_STRING "1.0.0"
+/* The version, as a number that grows (20,000 for 2.0.0) and as a string. With another first number
+ * some texts are drawn to other bytes: frames that were kept from such a version must be drawn again. */
+#define AVAREZHU_VERSION 20000
+#define AVAREZHU_VERSION_STRING "2.0.0"
 
 /* A compiler that can warns where a reply is dropped. */
 #if defined(__cplusplus) && __cplusplus >= 201703L
@@ -137,9 +138,9 @@ AVAREZHU_REPLY avarezhu_read(const char *text, size_t text_length,
                              uint8_t *gradient, size_t gradient_length);
 
 /*
- * Placing: where the color stops stand on the gradient line in a box of width by height pixels.
- * Leaves the stops in 132 bytes. Replies: 0 to 6; place_gradient never gives 3.
- * A gradient handed in has 320 bytes exactly.
+ * Placing: where the color stops stand on the gradient line in a box of width by height pixels, to the
+ * nearest 1/64 px, halves toward plus infinity. Leaves the stops in 132 bytes. Replies: 0 to 6;
+ * place_gradient never gives 3. A gradient handed in has 320 bytes exactly.
  */
 AVAREZHU_REPLY avarezhu_place(const char *text, size_t text_length,
                               size_t width, size_t height,

@@ -65,26 +65,27 @@ class Chart:
 
     def in_circle(self):
         (x_unit, x), (y_unit, y) = self.center
-        x, y = math.floor(units(x_unit, x, 64 * self.width)), math.floor(units(y_unit, y, 64 * self.height))
+        x, y = nearest(units(x_unit, x, 64 * self.width)), nearest(units(y_unit, y, 64 * self.height))
         for j in range(self.height):
             for i in range(self.width):
                 yield math.isqrt((64 * i + 32 - x) ** 2 + (64 * j + 32 - y) ** 2)
 
-    def around(self, location):
+    def around(self, location, positions=None):
         """The stops on both sides of a location, by their numbers; the same one twice where only one counts."""
-        above = bisect.bisect_right(self.positions, location)
-        return max(above - 1, 0), min(above, len(self.positions) - 1)
+        positions = positions or self.positions
+        above = bisect.bisect_right(positions, location)
+        return max(above - 1, 0), min(above, len(positions) - 1)
 
-    def color(self, location):
-        """The four exact channels of the color at a location."""
-        low, high = self.around(location)
-        a, b = self.positions[low], self.positions[high]
-        share = Fraction(location - a, b - a) if low != high and a <= location else Fraction(0)
+    def color(self, location, positions):
+        """The four exact channels of the color at a location, with the stops at these positions."""
+        low, high = self.around(location, positions)
+        a, b = positions[low], positions[high]
+        share = Fraction(location - a) / (b - a) if low != high and a <= location else Fraction(0)
         first, second = premultiplied(self.colors[low]), premultiplied(self.colors[high])
         return [p + (q - p) * share for p, q in zip(first, second)]
 
-    def moved(self, length):
-        """How far each stop is from its place before any rounding, on a line of this length."""
+    def before_rounding(self, length):
+        """The place of each stop before any rounding, on a line of this length."""
         exact = [units(unit, number, length) if unit else None for unit, number in self.written]
         exact[0] = Fraction(0) if exact[0] is None else exact[0]
         exact[-1] = Fraction(length) if exact[-1] is None else exact[-1]
@@ -93,7 +94,7 @@ class Chart:
             exact[k] = max(exact[k], exact[before])
             for m in range(before + 1, k):
                 exact[m] = exact[before] + (exact[k] - exact[before]) * Fraction(m - before, k - before)
-        return [abs(spot - position) for spot, position in zip(exact, self.positions)]
+        return exact
 
 
 def premultiplied(color):
@@ -104,6 +105,11 @@ def premultiplied(color):
 def units(unit, thousandths, whole):
     """A length, or a percentage of a whole in units, without rounding."""
     return Fraction(thousandths * 64, 1000) if unit == 1 else Fraction(thousandths * whole, 100000)
+
+
+def nearest(number):
+    """The nearest whole number, halves toward plus infinity."""
+    return math.floor(number + Fraction(1, 2))
 
 
 def ask(program, recipes, texts):

@@ -1,21 +1,23 @@
 """Columns and rows of one color, as wholes.
 
-A browser may dither: the pixels of such a line are then of two levels around the color. Their mean must be within 1/2 + 1/16 of the
-library's byte.
+A browser may dither: the pixels of such a line are then of two levels around the color. Their mean must be within 3/8 of the exact color
+(Chromium's pattern keeps it within 0.34) and within 1/2 + 1/16 of the library's byte.
 
 A browser that does not dither rounds, as the library does, and may round a color near a half the other way. So where a line has one level
 and it is not the library's byte, both must be within 1/2 + 1/8 of the exact color. (Firefox drifts along a row: its colors are up to 0.08
 levels off after 200 pixels.)
 
-A line beside a stop that the grid of 1/64 px moved is left out: the library colors it for the stop on the grid, a browser for the stop as
-it is written. Its pixels are compared one by one all the same.
+Beside a stop that the grid of 1/64 px moved there are two exact colors: the library's is for the stop on the grid, a browser's for the stop
+as it is written. There each is judged by its own, and a mean is not compared with the library's byte. No stop may be moved further than
+rounding to the nearest unit can: half a unit, or one where a stop without a position lies between two that are rounded too.
 """
 from fractions import Fraction
 
 from pixels import kind
 from shared import departures
 
-DITHERED = Fraction(1, 2) + Fraction(1, 16)
+DITHERED = Fraction(3, 8)
+ALIKE = Fraction(1, 2) + Fraction(1, 16)
 ROUNDED = Fraction(1, 2) + Fraction(1, 8)
 LEAST = 8  # patterns of dithering repeat after 8 pixels; fewer have no mean to speak of
 
@@ -34,44 +36,57 @@ def constant(chart):
 class Score:
     def __init__(self):
         self.lines = self.moved = self.dithered = self.rounded = 0
-        self.from_byte = self.from_color = Fraction(0)
+        self.by_grid = self.from_byte = self.from_written = self.from_color = Fraction(0)
 
-    def add(self, levels, byte, exact):
+    def add(self, levels, byte, on_grid, as_written):
         """Judges one channel of a line."""
         mean = Fraction(sum(levels), len(levels))
+        self.by_grid = max(self.by_grid, abs(on_grid - as_written))
         if min(levels) != max(levels):
             self.dithered += 1
-            self.from_byte = max(self.from_byte, abs(mean - byte))
-            return abs(mean - byte) <= DITHERED
+            return self.dithering(mean, byte if on_grid == as_written else None, as_written)
         if mean == byte:
             return True
-        distance = max(abs(mean - exact), abs(byte - exact))
+        distance = max(abs(mean - as_written), abs(byte - on_grid))
         self.rounded += 1
         self.from_color = max(self.from_color, distance)
         return distance <= ROUNDED
 
+    def dithering(self, mean, byte, color):
+        from_color, from_byte = abs(mean - color), abs(mean - byte) if byte is not None else 0
+        self.from_written, self.from_byte = max(self.from_written, from_color), max(self.from_byte, from_byte)
+        return from_color <= DITHERED and from_byte <= ALIKE
+
     def __str__(self):
         return (
-            f"{self.lines} columns and rows of one color checked, {self.moved} left out beside a stop that the grid moved\n"
-            f"  channels that are dithered: {self.dithered}, means at most {float(self.from_byte):.4f} from the library's byte\n"
+            f"{self.lines} columns and rows of one color checked; the grid moved the color of {self.moved}, by at most {float(self.by_grid):.4f}\n"
+            f"  channels that are dithered: {self.dithered}, means at most {float(self.from_written):.4f} from the exact color, and where the grid"
+            f" moved nothing {float(self.from_byte):.4f} from the library's byte\n"
             f"  rounded to another byte: {self.rounded}, both bytes at most {float(self.from_color):.4f} from the exact color"
         )
 
 
+def misplaced(chart, written):
+    """The stops that the grid moved too far."""
+    for k, (unit, _) in enumerate(chart.written):
+        if abs(chart.positions[k] - written[k]) > (Fraction(1, 2) if unit else 1):
+            yield f"stop {k + 1} at {chart.positions[k]} units, before rounding {float(written[k])}"
+
+
 def judge(chart, picture, score):
-    """The lines of one picture that break the rule."""
+    """The stops and lines of one picture that break the rule."""
     found, length = constant(chart)
-    moved = chart.moved(length) if found else []
+    written = chart.before_rounding(length) if found else []
+    yield from misplaced(chart, written) if found else []
     for location, line in found:
-        if any(moved[stop] for stop in chart.around(location)):
-            score.moved += 1
-            continue
+        on_grid, as_written = chart.color(location, chart.positions), chart.color(location, written)
         score.lines += 1
-        exact = chart.color(location)
+        score.moved += on_grid != as_written
         for channel in range(4):
             levels = [picture[4 * n + channel] for n in line]
-            if not score.add(levels, chart.pixels[4 * line[0] + channel], exact[channel]):
-                yield f"channel {channel} at {location} units: mean {sum(levels) / len(levels)}, exact {float(exact[channel])}"
+            if not score.add(levels, chart.pixels[4 * line[0] + channel], on_grid[channel], as_written[channel]):
+                mean, exact = sum(levels) / len(levels), float(as_written[channel])
+                yield f"channel {channel} at {location} units: mean {mean}, exact {exact}"
 
 
 def compare(recipes, charts, seen):

@@ -1,5 +1,5 @@
 #!/usr/bin/env python3
-"""The lines that the program `charts` prints, found from document 01's rules alone.
+"""The lines that the program `charts` prints, found from the rules of documents 01 and 02 alone.
 
 Reading is that of tests/reading/independent.py. Everything after it, the gradient line, the placing of stops and the colors, is written here
 once more, with Python's whole numbers and fractions.
@@ -26,6 +26,9 @@ CHARTS = [
     (4, 4, 64, "linear-gradient(200.25deg, red 2px, white 0px, #00f8 4px)"),
     (1, 1, 4, "radial-gradient(circle at 0.5px 0.5px, red -50px, yellow 100px)"),
     (4, 4, 64, "radial-gradient(circle closest-side at 30% 40%, red, lime 1px, blue 1px, #1234)"),
+    (1, 1, 4, "linear-gradient(to right, black 33.333%, white 66.667%)"),
+    (3, 4, 48, "linear-gradient(to top right, black -50%, red, white 50%)"),
+    (2, 2, 16, "radial-gradient(circle 0.995px at 33.333% 0.01px, red, blue)"),
     (0, 1, 8, "linear-gradient(red, blue)"),
     (1, 2049, 8, "linear-gradient(red, blue)"),
     (2, 2, 15, "linear-gradient(red, blue)"),
@@ -44,10 +47,16 @@ STATED = {
 SIDES = {"top": (0, -1), "right": (1, 0), "bottom": (0, 1), "left": (-1, 0)}
 
 
+def nearest(number):
+    """The nearest whole number, halves toward plus infinity."""
+    below = math.floor(number)
+    return below + 1 if number - below >= Fraction(1, 2) else below
+
+
 def units(word, whole):
     """A written length or percentage in 64ths of a pixel; percentages are of a whole number of them."""
     amount = Fraction(word.rstrip("px%"))
-    return math.floor(amount * whole / 100 if word.endswith("%") else amount * 64)
+    return nearest(amount * whole / 100 if word.endswith("%") else amount * 64)
 
 
 class Linear:
@@ -79,10 +88,11 @@ class Circle:
         size, _, *center = words
         self.center = [units(word, 64 * pixels) for word, pixels in zip(center, (width, height))]
         sides = [(abs(c), abs(64 * pixels - c)) for c, pixels in zip(self.center, (width, height))]
-        self.length = {
+        extents = {
             "closest-side": min(map(min, sides)),
             "farthest-corner": math.isqrt(sum(max(pair) ** 2 for pair in sides)),
-        }[size]
+        }
+        self.length = extents[size] if size in extents else units(size, 0)
 
     def location(self, i, j):
         return math.isqrt((64 * i + 32 - self.center[0]) ** 2 + (64 * j + 32 - self.center[1]) ** 2)
@@ -97,7 +107,7 @@ def place(written, length):
         spots[k] = max(spots[m] for m in placed if m <= k)
     for a, b in zip(placed, placed[1:]):
         for k in range(a + 1, b):
-            spots[k] = spots[a] + math.floor(Fraction((spots[b] - spots[a]) * (k - a), b - a))
+            spots[k] = nearest(spots[a] + Fraction((spots[b] - spots[a]) * (k - a), b - a))
     return spots
 
 
@@ -109,7 +119,7 @@ def pixel(stops, s):
     else:
         (a, p), (b, q) = stops[reached[-1]], stops[reached[-1] + 1]
         channels = [Fraction(u * (b - s) + v * (s - a), 255 * (b - a)) for u, v in zip(p, q)]
-    return [math.floor(channel + Fraction(1, 2)) for channel in channels]
+    return [nearest(channel) for channel in channels]
 
 
 def premultiplied(digits):

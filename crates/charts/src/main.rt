@@ -71,6 +71,28 @@ fn draw_accepted() {
     );
 }
 
+// Positions, runs of unplaced stops, a center and a size that are not whole units.
+fn draw_between_units() {
+    draw(
+        b"linear-gradient(to right, black 33.333%, white 66.667%)",
+        1,
+        1,
+        4,
+    );
+    draw(
+        b"linear-gradient(to top right, black -50%, red, white 50%)",
+        3,
+        4,
+        48,
+    );
+    draw(
+        b"radial-gradient(circle 0.995px at 33.333% 0.01px, red, blue)",
+        2,
+        2,
+        16,
+    );
+}
+
 fn draw_refused() {
     draw(b"linear-gradient(red, blue)", 0, 1, 8);
     draw(b"linear-gradient(red, blue)", 1, 2049, 8);
@@ -82,5 +104,6 @@ fn draw_refused() {
 
 fn main() {
     draw_accepted();
+    draw_between_units();
     draw_refused();
 }

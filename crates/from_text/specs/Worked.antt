@@ -87,7 +87,7 @@ cases =
     ∷ (placedFrom "linear-gradient(to right, red, white -50%, black 150%, blue)" gives pos 0 ∷ pos 0 ∷ pos 19200 ∷ pos 19200 ∷ [])
     ∷ (placedFrom "linear-gradient(to right, red -50px, white, blue)" gives negsuc 3199 ∷ pos 4800 ∷ pos 12800 ∷ [])
     ∷ (drawnFrom "radial-gradient(circle at 0.5px 0.5px, red -50px, yellow 100px)" 1 1 gives pos 255 ∷ pos 85 ∷ pos 0 ∷ pos 255 ∷ [])
-    ∷ (lengthUnits (pos 10) ∷ lengthUnits (negsuc 9) ∷ percentageUnits (pos 33333) 12800 ∷ [] is pos 0 ∷ negsuc 0 ∷ pos 4266 ∷ [])
+    ∷ (lengthUnits (pos 10) ∷ lengthUnits (negsuc 9) ∷ percentageUnits (pos 33333) 12800 ∷ [] is pos 1 ∷ negsuc 0 ∷ pos 4267 ∷ [])
     ∷ []
 
 pub p1-p10 : map (λ c. c .given) cases ≡ map (λ c. c .stated) cases

@@ -9,7 +9,7 @@ module _ (n d : ℕ) (h : 0 < d) where
   nearest-low : 2 * (nearest (n ⁄ d) * d) ≤ 2 * n + d
   nearest-low = omega (arith, div-mul-le-self (2 * n + d) (2 * d))
 
-  nearest-high : 2 * n + d < 2 * (nearest (n ⁄ d) * d) + 2 * d
+  pub nearest-high : 2 * n + d < 2 * (nearest (n ⁄ d) * d) + 2 * d
   nearest-high = omega (arith, lt-div-mul-add {a = 2 * n + d} {b = 2 * d} (omega arith))
 
   pub nearest-half : off (nearest (n ⁄ d)) (n ⁄ d) ≤ᶠ 1 ⁄ 2

@@ -1,4 +1,4 @@
--- What follows from the three laws of rounding: ranges of what is rounded, and of lengths and percentages in units.
+-- What follows from the laws of rounding: ranges of what is rounded, and of lengths and percentages in units.
 -- Assumes nothing.
 use mathlib.Core.Path.{_≡_, refl, sym, ap, _∙_}
 use Prim.Native.Nat.{ℕ, _+_, _*_, _-_, _≤_, _<_}

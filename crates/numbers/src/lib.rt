@@ -42,12 +42,14 @@ pub fn apart(a: u64, b: u64) -> u64
     if b <= a { a - b } else { b - a }
 }
 
-// n / d as a whole number of units.
+// n / d to the nearest whole number, halves up.
 pub fn round(n: u64, d: u64) -> u64
     requires { ⌜ (n < 2 ^ 62) × (0 < d) × (d < 2 ^ 62) ⌝ }
     ensures { λ r. ⌜ r ≡ rounded n d ⌝ }
 {
-    n / d
+    let q = n / d;
+    let rest = n % d;
+    if 2 * rest < d { q } else { q + 1 }
 }
 
 // A length in thousandths of a px, from -8,192 to 8,192 px, in units, biased.

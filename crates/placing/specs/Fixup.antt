@@ -48,7 +48,8 @@ raisedFrom greatest (at p ∷ l) = at (raisedTo greatest p) ∷ raisedFrom (at (
 abbrev pub raised : List Spot → List Spot
 raised l = raisedFrom unplaced l
 
--- ---- (c) "A run of unplaced stops between placed A and B, k−1 stops long, gets A + floor((B−A)·m/k) for m = 1 to k−1."
+-- ---- (c) "A run of unplaced stops between placed A and B, k−1 stops long, gets A + floor((B−A)·m/k) for m = 1 to k−1", with the nearest unit
+-- for the floor since T-03 of document 02
 
 -- the first placed stop of a list, and how many unplaced stops stand before it; after (a) there always is one
 unfoldable pub next : List Spot → ℤ
@@ -61,7 +62,7 @@ run [] = 0
 run (unplaced ∷ l) = suc (run l)
 run (at p ∷ l) = 0
 
--- the m-th of the k−1 stops between A and B; the floor is the rounding to a unit
+-- the m-th of the k−1 stops between A and B
 abbrev pub between : ℤ → ℤ → ℕ → ℕ → ℤ
 between A B m k = A +ℤ toUnit ((B -ℤ A) *ℤ pos m) k
 

@@ -23,3 +23,12 @@ pub p4-p8 :
     × (on200px (P.Length (negsuc 49999) ∷ P.Auto ∷ P.Auto ∷ []) ≡ negsuc 3199 ∷ pos 4800 ∷ pos 12800 ∷ [])
 unfolding toUnit floorDiv firstAt lastAt raisedFrom next run spacedFrom
 p4-p8 = (refl, refl, refl, refl, refl)
+
+-- Spacing goes to the nearest unit, halves toward plus infinity: a run over an odd distance, `red -0.016px, white, blue 0.032px`; one below 0,
+-- `red -0.047px, white, blue 0px`; and thirds, `red, white, black, blue 1px`
+runs :
+    (on200px (P.Length (negsuc 15) ∷ P.Auto ∷ P.Length (pos 32) ∷ []) ≡ negsuc 0 ∷ pos 1 ∷ pos 2 ∷ [])
+    × (on200px (P.Length (negsuc 46) ∷ P.Auto ∷ P.Length (pos 0) ∷ []) ≡ negsuc 2 ∷ negsuc 0 ∷ pos 0 ∷ [])
+    × (on200px (P.Auto ∷ P.Auto ∷ P.Auto ∷ P.Length (pos 1000) ∷ []) ≡ pos 0 ∷ pos 21 ∷ pos 43 ∷ pos 64 ∷ [])
+unfolding toUnit floorDiv firstAt lastAt raisedFrom next run spacedFrom
+runs = (refl, refl, refl)

@@ -1,4 +1,4 @@
-// Prints the figures of the grid that document 01 works through, as the compiled code finds them.
+// Prints the figures of the grid that documents 01 and 02 work through, as the compiled code finds them.
 use gradient::Coordinate;
 use gradient::Direction;
 use gradient::Extent;
@@ -29,6 +29,12 @@ fn say_biased(label: &[u8], u: u32) {
     }
     io::print_decimal(STDOUT_FILENO, numbers::apart(u as u64, numbers::WIDE_BIAS));
     io::write_all(STDOUT_FILENO, b"\n");
+}
+
+fn say_percentage(label: &[u8], p: i32, whole: u32)
+    requires { ⌜ (natAbs p ≤ 1000000) × (whole ≤ mostWhole) ⌝ }
+{
+    say_biased(label, numbers::percentage_units(p, whole));
 }
 
 fn say_length(label: &[u8], s: Shape, w: usize, h: usize)
@@ -79,10 +85,10 @@ fn farthest() -> Shape
 fn main() {
     say_biased(b"0.01px: ", numbers::length_units(10));
     say_biased(b"-0.01px: ", numbers::length_units(-10));
-    say_biased(
-        b"33.333% of 12800: ",
-        numbers::percentage_units(33333, 12800),
-    );
+    say_percentage(b"33.333% of 12800: ", 33333, 12800);
+    say_percentage(b"-0.01% of 12800: ", -10, 12800);
+    say_percentage(b"50% of 1: ", 50000, 1);
+    say_percentage(b"-50% of 1: ", -50000, 1);
     say_length(b"to top right in 3x4: ", corner(), 3, 4);
     say_location(b"to top right in 3x4, pixel 0,3: ", corner(), 3, 4, 0, 3);
     say_location(b"to top right in 3x4, pixel 2,0: ", corner(), 3, 4, 2, 0);

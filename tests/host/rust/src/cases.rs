@@ -8,6 +8,7 @@ use crate::gradient::Gradient;
 use crate::layout::{gradient_bytes, stops_bytes, take_gradient, take_stops};
 use crate::layouts::{damage_gradient, damage_stops, fill_places, random_gradient, random_stops};
 use crate::library::{Call, Export};
+use crate::placing::roundings;
 use crate::png::shows_gray;
 use crate::reading::{read, LONGEST_TEXT};
 
@@ -111,6 +112,9 @@ pub fn text_case(compare: &mut Compare, chance: &mut Chance, text: &[u8], area: 
         compare.counts.clause("file through which a gray square shows");
     }
     if let Some(gradient) = gradient {
+        if box_fits(area) {
+            roundings(&gradient, area).into_iter().for_each(|way| compare.counts.clause(way));
+        }
         handed_on(compare, chance, &gradient, area, &answers)?;
     }
     Ok(())

@@ -5,7 +5,7 @@ use std::collections::BTreeMap;
 use crate::expected::needed;
 use crate::library::{Call, Export, EXPORTS};
 
-const CLAUSES: [&str; 39] = [
+const CLAUSES: [&str; 46] = [
     "no direction", "side", "corner, horizontal word first", "corner, vertical word first",
     "angle", "angle below 0", "angle above 360",
     "circle alone", "closest-side", "closest-corner", "farthest-side", "farthest-corner",
@@ -13,6 +13,8 @@ const CLAUSES: [&str; 39] = [
     "no at", "at center", "at horizontal word", "at vertical word", "at number", "at two words",
     "at two words, vertical first", "at word and number", "at number and word", "at two numbers",
     "stop without position", "stop with length", "stop with percentage", "16 stops",
+    "position taken down", "position taken up", "position at half a unit, above 0", "position at half a unit, below 0",
+    "spacing taken down", "spacing taken up", "spacing at half a unit",
     "text of 1,024 bytes", "whole picture of 2,048 by 2,048", "every byte from 0 to 255",
     "file through which a gray square shows", "file of one row", "file of 2,048 by 2,048",
     "file, a byte too little lent", "file, as much lent as it needs", "file, more lent than it needs",

@@ -5,11 +5,28 @@ use crate::sines::sine;
 
 pub const LONGEST_SIDE: usize = 2048;
 
-pub fn units(amount: Amount, whole: i64) -> i64 {
-    match amount {
-        Amount::Length(v) => (v * 64).div_euclid(1000),
-        Amount::Percentage(v) => (v * whole).div_euclid(100_000),
+/// The whole number nearest to n / d, the greater one where two are.
+pub fn nearest(n: i64, d: i64) -> i64 {
+    let below = n.div_euclid(d);
+    let (to_below, to_above) = (n - below * d, (below + 1) * d - n);
+    if to_below < to_above {
+        below
+    } else {
+        below + 1
     }
+}
+
+/// A length or a percentage in units, as a fraction.
+pub fn exact(amount: Amount, whole: i64) -> (i64, i64) {
+    match amount {
+        Amount::Length(v) => (v * 64, 1000),
+        Amount::Percentage(v) => (v * whole, 100_000),
+    }
+}
+
+pub fn units(amount: Amount, whole: i64) -> i64 {
+    let (n, d) = exact(amount, whole);
+    nearest(n, d)
 }
 
 /// The greatest q with q*q*n at most square. The guess may be off: whole numbers decide.

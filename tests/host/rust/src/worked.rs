@@ -22,14 +22,18 @@ const DRAWN: [(&str, &str, Area, &[u8]); 3] = [
 ];
 
 /// Charts with the places of their stops.
-const PLACED: [(&str, &str, Area, &[i64]); 9] = [
+const PLACED: [(&str, &str, Area, &[i64]); 13] = [
     ("P3", "linear-gradient(to top right, black, white)", (3, 4), &[0, 307]),
     ("P4", "linear-gradient(to right, red 40%, white, black, blue)", (200, 1), &[5120, 7680, 10_240, 12_800]),
     ("P5", "linear-gradient(to right, red -50%, white, blue)", (200, 1), &[-6400, 3200, 12_800]),
     ("P6", "linear-gradient(to right, red 20px, white 0px, blue 40px)", (200, 1), &[1280, 1280, 2560]),
     ("P7", "linear-gradient(to right, red, white -50%, black 150%, blue)", (200, 1), &[0, 0, 19_200, 19_200]),
     ("P8", "linear-gradient(to right, red -50px, white, blue)", (200, 1), &[-3200, 4800, 12_800]),
-    ("P10", "linear-gradient(to right, red -0.01px, white 0.01px, blue 33.333%)", (200, 1), &[-1, 0, 4266]),
+    ("P10", "linear-gradient(to right, red -0.01px, white 0.01px, blue 33.333%)", (200, 1), &[-1, 1, 4267]),
+    ("less than a unit", "linear-gradient(to right, red -0.01%, white, blue -0.001%)", (200, 1), &[-1, 0, 0]),
+    ("halves", "linear-gradient(to top right, red -50%, white 50%)", (3, 4), &[-153, 154]),
+    ("a run over an odd distance", "linear-gradient(to right, red -0.016px, white, blue 0.032px)", (200, 1), &[-1, 1, 2]),
+    ("a run of thirds", "linear-gradient(to right, red, white, black, blue 1px)", (200, 1), &[0, 21, 43, 64]),
     ("closest-corner", "radial-gradient(circle closest-corner at 3px 4px, red, blue)", (20, 20), &[0, 320]),
     ("a radius of 0", "radial-gradient(0px, red -10%, blue, lime 500%)", (3, 3), &[0, 0, 0]),
 ];
@@ -79,9 +83,12 @@ fn same<T: PartialEq + std::fmt::Debug>(name: &str, want: T, got: T) -> Result<(
 
 pub fn model() -> Result<(), String> {
     same("the rules of the sine table", true, table_is_sound())?;
-    same("0.01px", 0, units(Amount::Length(10), 0))?;
+    same("0.01px", 1, units(Amount::Length(10), 0))?;
     same("-0.01px", -1, units(Amount::Length(-10), 0))?;
-    same("33.333% of 12,800", 4266, units(Amount::Percentage(33_333), 12_800))?;
+    same("33.333% of 12,800", 4267, units(Amount::Percentage(33_333), 12_800))?;
+    same("-0.01% of 12,800", -1, units(Amount::Percentage(-10), 12_800))?;
+    same("50% of 1", 1, units(Amount::Percentage(50_000), 1))?;
+    same("-50% of 1", 0, units(Amount::Percentage(-50_000), 1))?;
     same("the CRC-32 of 123456789", 0xCBF4_3926, crc(b"123456789"))?;
     same("the Adler-32 of Wikipedia", 0x11E6_0398, adler(b"Wikipedia"))?;
     same("the file of a red pixel", RED_DOT.to_vec(), file(&[255, 0, 0, 255], (1, 1)))?;
