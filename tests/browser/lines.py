@@ -1,10 +1,12 @@
 """Columns and rows of one color, as wholes.
 
+The library's byte must be within 1/2 of the exact color, on every line and in every channel.
+
 A browser may dither: the pixels of such a line are then of two levels around the color. Their mean must be within 3/8 of the exact color
 (Chromium's pattern keeps it within 0.34) and within 1/2 + 1/16 of the library's byte.
 
 A browser that does not dither rounds, as the library does, and may round a color near a half the other way. So where a line has one level
-and it is not the library's byte, both must be within 1/2 + 1/8 of the exact color. (Firefox drifts along a row: its colors are up to 0.08
+and it is not the library's byte, it must be within 1/2 + 1/8 of the exact color. (Firefox drifts along a row: its colors are up to 0.08
 levels off after 200 pixels.)
 
 Beside a stop that the grid of 1/64 px moved there are two exact colors: the library's is for the stop on the grid, a browser's for the stop
@@ -16,6 +18,7 @@ from fractions import Fraction
 from pixels import kind
 from shared import departures
 
+HALF = Fraction(1, 2)
 DITHERED = Fraction(3, 8)
 ALIKE = Fraction(1, 2) + Fraction(1, 16)
 ROUNDED = Fraction(1, 2) + Fraction(1, 8)
@@ -42,15 +45,16 @@ class Score:
         """Judges one channel of a line."""
         mean = Fraction(sum(levels), len(levels))
         self.by_grid = max(self.by_grid, abs(on_grid - as_written))
+        if abs(byte - on_grid) > HALF:
+            return False
         if min(levels) != max(levels):
             self.dithered += 1
             return self.dithering(mean, byte if on_grid == as_written else None, as_written)
         if mean == byte:
             return True
-        distance = max(abs(mean - as_written), abs(byte - on_grid))
         self.rounded += 1
-        self.from_color = max(self.from_color, distance)
-        return distance <= ROUNDED
+        self.from_color = max(self.from_color, abs(mean - as_written))
+        return abs(mean - as_written) <= ROUNDED
 
     def dithering(self, mean, byte, color):
         from_color, from_byte = abs(mean - color), abs(mean - byte) if byte is not None else 0
@@ -62,7 +66,7 @@ class Score:
             f"{self.lines} columns and rows of one color checked; the grid moved the color of {self.moved}, by at most {float(self.by_grid):.4f}\n"
             f"  channels that are dithered: {self.dithered}, means at most {float(self.from_written):.4f} from the exact color, and where the grid"
             f" moved nothing {float(self.from_byte):.4f} from the library's byte\n"
-            f"  rounded to another byte: {self.rounded}, both bytes at most {float(self.from_color):.4f} from the exact color"
+            f"  rounded to another byte: {self.rounded}, the browser's at most {float(self.from_color):.4f} from the exact color"
         )
 
 
@@ -83,10 +87,11 @@ def judge(chart, picture, score):
         score.lines += 1
         score.moved += on_grid != as_written
         for channel in range(4):
-            levels = [picture[4 * n + channel] for n in line]
-            if not score.add(levels, chart.pixels[4 * line[0] + channel], on_grid[channel], as_written[channel]):
-                mean, exact = sum(levels) / len(levels), float(as_written[channel])
-                yield f"channel {channel} at {location} units: mean {mean}, exact {exact}"
+            levels, byte = [picture[4 * n + channel] for n in line], chart.pixels[4 * line[0] + channel]
+            if not score.add(levels, byte, on_grid[channel], as_written[channel]):
+                ours, theirs = float(on_grid[channel]), float(as_written[channel])
+                said = f"the library {byte} for {ours}, the browser's mean {sum(levels) / len(levels)} for {theirs}"
+                yield f"channel {channel} at {location} units: {said}"
 
 
 def compare(recipes, charts, seen):
