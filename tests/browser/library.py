@@ -1,4 +1,4 @@
-"""The library's side: replies, pictures, placed stops, and the rules of document 01 that say where a pixel lies between them."""
+"""The library's side: replies, pictures, placed stops, and the rules of documents 01 and 02 that say where a pixel lies between them."""
 import bisect
 import math
 import os

@@ -20,8 +20,8 @@ from shared import departures
 
 HALF = Fraction(1, 2)
 DITHERED = Fraction(3, 8)
-ALIKE = Fraction(1, 2) + Fraction(1, 16)
-ROUNDED = Fraction(1, 2) + Fraction(1, 8)
+ALIKE = HALF + Fraction(1, 16)
+ROUNDED = HALF + Fraction(1, 8)
 LEAST = 8  # patterns of dithering repeat after 8 pixels; fewer have no mean to speak of
 
 
@@ -73,7 +73,7 @@ class Score:
 def misplaced(chart, written):
     """The stops that the grid moved too far."""
     for k, (unit, _) in enumerate(chart.written):
-        if abs(chart.positions[k] - written[k]) > (Fraction(1, 2) if unit else 1):
+        if abs(chart.positions[k] - written[k]) > (HALF if unit else 1):
             yield f"stop {k + 1} at {chart.positions[k]} units, before rounding {float(written[k])}"
 
 

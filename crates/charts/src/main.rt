@@ -1,5 +1,5 @@
-// Draws the charts of document 01 from their text, and texts and buffers that are refused; prints for each the reply and every byte of the buffer,
-// which holds 1 in every byte before. tests/drawing/independent.py finds the same lines from the rules alone.
+// Draws charts from their text, those of document 01 among them, and texts and buffers that are refused; prints for each the reply and every byte
+// of the buffer, which holds 1 in every byte before. tests/drawing/independent.py finds the same lines from the rules alone.
 use libc::STDOUT_FILENO;
 ghost use Prim.Native.Nat.{_≤_};
 

@@ -1,4 +1,5 @@
--- The ten P cases of document 01, worked out from the definitions: P1 to P9 from their text, each with the reply 0.
+-- The ten P cases of document 01, P10 as T-03 of document 02 changes it, worked out from the definitions: P1 to P9 from their text, each with
+-- the reply 0.
 -- Assumes nothing.
 use Prim.Native.String.{String}
 use mathlib.Core.Path.{_≡_, refl}

@@ -67,7 +67,7 @@ module _ (a u k d : ℕ) where
 
   near-is : 2 * distance (a * d) u ≤ d → 2 * u < 2 * (a * d) + d → IsNearest (subℕ u (k * d)) d (subℕ a k)
   near-is h l = record {
-    half = rw off-at h;
+    half = omega (arith, off-at, h);
     up = λ e. order-at ∙ le-leb u (a * d) (omega (arith, off-at, e));
   }
 
