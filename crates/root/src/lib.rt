@@ -3,22 +3,50 @@ ghost use mathlib.Core.Path.{_≡_};
 ghost use mathlib.Core.Bool.{true};
 ghost use Prim.Native.Nat.{_+_, _*_, _%_, _≤_, _<_};
 ghost use Rattle.root.specs.Root.{IsRoot, rootOf};
+ghost use Rattle.root.specs.Digits.{digitsOf};
 
-// The greatest whole number whose square is at most x, by bisection: it is at least low and below high.
+// How many binary digits the root of x has: half as many as x has, rounded up.
+fn root_digits(x: u64) -> u32
+    ensures { λ r. ⌜ r ≡ digitsOf (rootOf 1 x) ⌝ }
+{
+    (65 - u64::leading_zeros(x)) / 2
+}
+
+// A root, and the rounds that it took to find.
+pub struct Found {
+    pub root: u64,
+    pub rounds: u32,
+}
+
+// Finds the root of x as one does by hand, a binary digit each round, from the top one down. A round brings down two more digits of x; q is the root of
+// all that were brought down, and `rest` is how far they are above q². The digit is 1 where `rest` holds `more`, which is (q + 1)² − q².
+pub fn find(x: u64) -> Found
+    ensures { λ r. ⌜ (r .root ≡ rootOf 1 x) × (r .rounds ≡ digitsOf (r .root)) × (r .rounds ≤ 32) ⌝ }
+{
+    let mut left = 2 * root_digits(x);
+    let mut q: u64 = 0;
+    let mut rest: u64 = 0;
+    let mut rounds: u32 = 0;
+    while 0 < left {
+        rounds += 1;
+        left -= 2;
+        q = 2 * q;
+        let more = 2 * q + 1;
+        rest = 4 * rest + (x >> left) % 4;
+        if more <= rest {
+            rest -= more;
+            q += 1;
+        }
+    }
+    Found { root: q, rounds }
+}
+
+// The greatest whole number whose square is at most x.
 pub fn root(x: u64) -> u64
     ensures { λ r. ⌜ r ≡ rootOf 1 x ⌝ }
 {
-    let mut low: u64 = 0;
-    let mut high: u64 = 4294967296;
-    while low + 1 < high {
-        let middle = (low + high) / 2;
-        if middle * middle <= x {
-            low = middle;
-        } else {
-            high = middle;
-        }
-    }
-    low
+    let found = find(x);
+    found.root
 }
 
 // x − g², modulo 2^64: at most 2g only where g is the root of x.
@@ -29,7 +57,7 @@ fn over_square(x: u64, g: u32) -> u64
     std::num::wrapping_sub_u64(x, b * b)
 }
 
-// A better guess at the root of x, from a guess. Any answer is allowed.
+// A better guess at the root of x, from a guess: from a close one mostly the root, or one less. Any answer is allowed.
 fn newton(x: u64, g: u32) -> u32 {
     let b = g as u64 + 1;
     ((b / 2 + x / b / 2) % 4294967296) as u32
@@ -43,7 +71,7 @@ fn root_from(x: u64, g: u32) -> u64
     if over_square(x, n) <= 2 * (n as u64) {
         return n as u64;
     }
-    let m = std::num::wrapping_sub_u32(n, 1);
+    let m = std::num::wrapping_add_u32(n, 1);
     if over_square(x, m) <= 2 * (m as u64) {
         return m as u64;
     }

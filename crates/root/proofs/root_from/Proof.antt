@@ -21,8 +21,8 @@ cast-result c = search needs
 returns : tie.Need-returns
 returns c = c .before .over-square .ensures (c .if1 .taken)
 
-wrapping-sub-u32-requires : tie.Need-wrapping-sub-u32-requires
-wrapping-sub-u32-requires c κs = search needs
+wrapping-add-u32-requires : tie.Need-wrapping-add-u32-requires
+wrapping-add-u32-requires c κs = search needs
 
 over-square-requires-2 : tie.Need-over-square-requires-2
 over-square-requires-2 c κs = search needs
@@ -55,7 +55,7 @@ root-from-spec =
     mul-if1
     cast-result
     returns
-    wrapping-sub-u32-requires
+    wrapping-add-u32-requires
     over-square-requires-2
     cast-if2
     mul-if2
