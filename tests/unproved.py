@@ -1,9 +1,20 @@
-"""Builds Rattle programs over the crates of a tree without proving anything: what runs edits, and what times parts of the library, needs."""
+"""Builds Rattle programs over the crates of a tree, without proving anything: for tests/edits/try and bench/against."""
 
 import platform
+import re
 import shutil
 import subprocess
 from pathlib import Path
+
+
+KEEPER = """#!/bin/sh
+PATH=/usr/bin:/bin
+"{linker}" "$@" || exit 1
+echo >>"{folder}/linked"
+[ "$(wc -l <"{folder}/linked")" -lt {nth} ] && exit 0
+cp program "{folder}/program"
+exit 1
+"""
 
 
 class Failure(Exception):
@@ -31,15 +42,14 @@ class Toolchain:
         self.tools = self.own / "toolchain"
         if not self.tools.is_dir():
             raise Failure(f"no toolchain for {platform.machine()} at {self.home}")
-
         self.libraries = read_uses(self.home / "libs" / "libs.txt")
 
     def library(self, name):
         return self.home / "libs" / name / "src" / "lib.rt"
 
     def keeping(self, nth, folder):
-        """The toolchain with a linker that keeps the nth program that `rattle-cases` builds and then stops it: the first is not optimized, the
-        second is, and the third looks for what the compiler takes for granted. It would run them all."""
+        """The toolchain with a linker that keeps the nth program that `rattle-cases` builds, and then stops it. The first is not optimized, and
+        the second is; both would be run, and more built."""
         tools = folder / "toolchain"
         (tools / "bin").mkdir(parents=True)
         (tools / "lib").symlink_to(self.tools / "lib")
@@ -49,16 +59,6 @@ class Toolchain:
         linker.write_text(KEEPER.format(linker=f"{self.tools}/bin/ld.lld", folder=folder, nth=nth))
         linker.chmod(0o755)
         return tools
-
-
-KEEPER = """#!/bin/sh
-PATH=/usr/bin:/bin
-"{linker}" "$@" || exit 1
-echo >>"{folder}/linked"
-[ "$(wc -l <"{folder}/linked")" -lt {nth} ] && exit 0
-cp program "{folder}/program"
-exit 1
-"""
 
 
 class Program:
@@ -78,10 +78,10 @@ class Program:
             return self.tree / "crates" / name / "src" / "lib.rt"
         return self.toolchain.library(name)
 
-    def libraries(self, named):
-        """The libraries that are named, and all that they use, as arguments."""
+    def libraries(self, text):
+        """The libraries that a text names, and all that they use, as arguments."""
         words, seen = [], set()
-        todo = [n for n in named if n in self.crates or n in self.toolchain.libraries] + ["std"]
+        todo = [n for n in re.findall(r"\b(\w+)::", text) if n in self.crates or n in self.toolchain.libraries] + ["std"]
         while todo:
             name = todo.pop()
             if name in seen:
@@ -91,11 +91,11 @@ class Program:
             todo += self.crates.get(name) or self.toolchain.libraries.get(name, [])
         return words
 
-    def build(self, text, named, optimized=False):
+    def build(self, text, optimized=False):
         main = self.folder / "main" / "main.rt"
         main.parent.mkdir(parents=True)
         main.write_text(text)
-        words = [main, "--crate-name", "program", *self.libraries(named)]
+        words = [main, "--crate-name", "program", *self.libraries(text)]
         commands = self.toolchain.own / "bin"
         tools = self.toolchain.keeping(2 if optimized else 1, self.folder)
         built = subprocess.run([commands / "rattle-cases", "--toolchain", tools, *words], capture_output=True, text=True)

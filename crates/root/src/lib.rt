@@ -57,10 +57,10 @@ fn over_square(x: u64, g: u32) -> u64
     std::num::wrapping_sub_u64(x, b * b)
 }
 
-// A better guess at the root of x, from a guess: from a close one mostly the root, or one less. Any answer is allowed.
+// A better guess at the root of x, from a guess: from a close one mostly the root itself. Any answer is allowed.
 fn newton(x: u64, g: u32) -> u32 {
     let b = g as u64 + 1;
-    ((b / 2 + x / b / 2) % 4294967296) as u32
+    (std::num::wrapping_add_u64(b, x / b) / 2 % 4294967296) as u32
 }
 
 // The root, searched for near a guess first.
@@ -70,10 +70,6 @@ fn root_from(x: u64, g: u32) -> u64
     let n = newton(x, g);
     if over_square(x, n) <= 2 * (n as u64) {
         return n as u64;
-    }
-    let m = std::num::wrapping_add_u32(n, 1);
-    if over_square(x, m) <= 2 * (m as u64) {
-        return m as u64;
     }
     root(x)
 }

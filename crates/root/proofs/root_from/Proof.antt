@@ -21,29 +21,11 @@ cast-result c = search needs
 returns : tie.Need-returns
 returns c = c .before .over-square .ensures (c .if1 .taken)
 
-wrapping-add-u32-requires : tie.Need-wrapping-add-u32-requires
-wrapping-add-u32-requires c κs = search needs
-
-over-square-requires-2 : tie.Need-over-square-requires-2
-over-square-requires-2 c κs = search needs
-
-cast-if2 : tie.Need-cast-if2
-cast-if2 c = search needs
-
-mul-if2 : tie.Need-mul-if2
-mul-if2 c = search needs
-
-cast-result-2 : tie.Need-cast-result-2
-cast-result-2 c = search needs
-
-returns-2 : tie.Need-returns-2
-returns-2 c = c .before .over-square2 .ensures (c .if2 .taken)
-
 root-requires : tie.Need-root-requires
 root-requires c κs = search needs
 
-returns-3 : tie.Need-returns-3
-returns-3 c = search needs
+returns-2 : tie.Need-returns-2
+returns-2 c = search needs
 
 pub root-from-spec : {M : Type 1} → statement M
 root-from-spec =
@@ -55,11 +37,5 @@ root-from-spec =
     mul-if1
     cast-result
     returns
-    wrapping-add-u32-requires
-    over-square-requires-2
-    cast-if2
-    mul-if2
-    cast-result-2
-    returns-2
     root-requires
-    returns-3)
+    returns-2)
