@@ -23,13 +23,13 @@ pub struct Found {
 pub fn find(x: u64) -> Found
     ensures { λ r. ⌜ (r .root ≡ rootOf 1 x) × (r .rounds ≡ digitsOf (r .root)) × (r .rounds ≤ 32) ⌝ }
 {
-    let mut left = 2 * root_digits(x);
+    let digits = root_digits(x);
     let mut q: u64 = 0;
     let mut rest: u64 = 0;
     let mut rounds: u32 = 0;
-    while 0 < left {
+    while rounds < digits {
         rounds += 1;
-        left -= 2;
+        let left = 2 * (digits - rounds);
         q = 2 * q;
         let more = 2 * q + 1;
         rest = 4 * rest + (x >> left) % 4;

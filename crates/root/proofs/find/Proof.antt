@@ -2,7 +2,7 @@
 -- Assumes nothing.
 use mathlib.Core.Path.{_≡_, sym, ap, _∙_}
 use Prim.Native.Nat.{ℕ, _+_, _*_, _-_, _/_, _%_, _^_, _≤_, _<_}
-use native.Mathlib.Nat.{lt-of-not-le, mul-le-mul, div-le-self, div-one}
+use native.Mathlib.Nat.{lt-of-not-le, mul-le-mul, div-le-self, div-one, sub-zero, sub-eq-zero-of-le}
 use native.Mathlib.Omega.{arith}
 use lib.Pow.{shr-shr}
 use Rattle.root.specs.Root.{rootOf}
@@ -29,36 +29,39 @@ one y q rest l h = (omega (arith, l .0), omega (arith, l .1))
 none : (y q rest : ℕ) → Leaves (y / 4) q rest → 4 * rest + y % 4 < 2 * (2 * q) + 1 → Leaves y (2 * q) (4 * rest + y % 4)
 none y q rest l h = (omega (arith, l .0), omega arith)
 
--- two more digits are brought down
-two-more : (x left : ℕ) → 2 ≤ left → x / 2 ^ (left - 2) / 4 ≡ x / 2 ^ left
-two-more x left h = shr-shr x (left - 2) 2 ∙ ap (λ (e : ℕ). x / 2 ^ e) (omega arith)
+-- what is brought down: two digits more by one more round, and all of them in the end
+two-more : (x k r : ℕ) → r < k → x / 2 ^ (2 * (k - (r + 1))) / 4 ≡ x / 2 ^ (2 * (k - r))
+two-more x k r h = shr-shr x (2 * (k - (r + 1))) 2 ∙ ap (λ (e : ℕ). x / 2 ^ e) (omega arith)
 
-bring : (x left q rest : ℕ) → 2 ≤ left → Leaves (x / 2 ^ left) q rest → Leaves (x / 2 ^ (left - 2) / 4) q rest
-bring x left q rest h l = rw (two-more x left h) l
+bring : (x k r q rest : ℕ) → r < k → Leaves (x / 2 ^ (2 * (k - r))) q rest → Leaves (x / 2 ^ (2 * (k - (r + 1))) / 4) q rest
+bring x k r q rest h l = rw (two-more x k r h) l
+
+all : (x k r : ℕ) → k ≤ r → x / 2 ^ (2 * (k - r)) ≡ x
+all x k r h = ap (λ (e : ℕ). x / 2 ^ (2 * e)) (sub-eq-zero-of-le h) ∙ div-one x
 
 abbrev Inv-loop : tie.InvT-loop
-Inv-loop x left₀ q₀ rest₀ rounds₀ left q rest rounds = (2 * rounds + left ≡ left₀) × (left₀ ≤ 64) × (q < 4294967296) × Leaves (x / 2 ^ left) q rest
+Inv-loop x digits q₀ rest₀ rounds₀ q rest rounds = (rounds ≤ digits) × (digits ≤ 32) × (q < 4294967296) × Leaves (x / 2 ^ (2 * (digits - rounds))) q rest
 
 abbrev μ-loop : tie.MeasureT-loop
-μ-loop x left₀ q₀ rest₀ rounds₀ left q rest rounds = left
+μ-loop x digits q₀ rest₀ rounds₀ q rest rounds = digits - rounds
 
 root-digits-requires : tie.Need-root-digits-requires Inv-loop μ-loop
 root-digits-requires c κs = tt
-
-mul-left : tie.Need-mul-left Inv-loop μ-loop
-mul-left c = omega (arith, c .root-digits .ensures, digits-most (c .before .args .x) (c .before .fits .x .fits))
 
 loop-holds : tie.Need-loop-holds Inv-loop μ-loop
 loop-holds c =
     let x = c .before .args .x in
     let e = c .root-digits .ensures in
-    (omega arith, omega (arith, e, digits-most x (c .before .fits .x .fits)), omega arith, (sym (rw e (digits-hold x)), omega arith))
+    (omega arith, rw e (digits-most x (c .before .fits .x .fits)), omega arith, (sym (rw (sub-zero (c .root-digits .result), e) (digits-hold x)), omega arith))
 
 add-rounds : tie.Need-add-rounds Inv-loop μ-loop
 add-rounds c = omega arith
 
 sub-left : tie.Need-sub-left Inv-loop μ-loop
 sub-left c = omega arith
+
+mul-left : tie.Need-mul-left Inv-loop μ-loop
+mul-left c = omega arith
 
 mul-q : tie.Need-mul-q Inv-loop μ-loop
 mul-q c = omega arith
@@ -90,8 +93,10 @@ loop-less c = omega arith
 loop-again : tie.Need-loop-again Inv-loop μ-loop
 loop-again c =
     let start = c .before .before .before .before in
+    let digits = c .before .before .before .root-digits .result in
     let loop = c .before .before .loop in
-    let l = one _ (loop .q) (loop .rest) (bring (start .args .x) (loop .left) (loop .q) (loop .rest) (omega arith) (loop .inv .3)) (omega arith) in
+    let b = bring (start .args .x) digits (loop .rounds) (loop .q) (loop .rest) (omega arith) (loop .inv .3) in
+    let l = one _ (loop .q) (loop .rest) b (omega arith) in
     (omega arith, loop .inv .1, leaves-small (start .args .x) _ _ _ (start .fits .x .fits) (div-le-self _ _) l, l)
 
 loop-less-2 : tie.Need-loop-less-2 Inv-loop μ-loop
@@ -100,18 +105,20 @@ loop-less-2 c = omega arith
 loop-again-2 : tie.Need-loop-again-2 Inv-loop μ-loop
 loop-again-2 c =
     let start = c .before .before .before .before in
+    let digits = c .before .before .before .root-digits .result in
     let loop = c .before .before .loop in
-    let l = none _ (loop .q) (loop .rest) (bring (start .args .x) (loop .left) (loop .q) (loop .rest) (omega arith) (loop .inv .3)) (omega arith) in
+    let b = bring (start .args .x) digits (loop .rounds) (loop .q) (loop .rest) (omega arith) (loop .inv .3) in
+    let l = none _ (loop .q) (loop .rest) b (omega arith) in
     (omega arith, loop .inv .1, leaves-small (start .args .x) _ _ _ (start .fits .x .fits) (div-le-self _ _) l, l)
 
 returns : tie.Need-returns Inv-loop μ-loop
 returns c =
     let x = c .before .before .before .args .x in
+    let digits = c .before .before .root-digits in
     let loop = c .before .loop in
-    let end : loop .left ≡ 0 = omega arith in
-    let q : loop .q ≡ rootOf 1 x = leaves-root _ _ _ (loop .inv .3) ∙ ap (λ (e : ℕ). rootOf 1 (x / 2 ^ e)) end ∙ ap (rootOf 1) (div-one x) in
-    let rounds : loop .rounds ≡ c .before .before .root-digits .result = omega arith in
-    (q, rounds ∙ c .before .before .root-digits .ensures ∙ ap digitsOf (sym q), omega arith)
+    let q : loop .q ≡ rootOf 1 x = leaves-root _ _ _ (loop .inv .3) ∙ ap (rootOf 1) (all x _ _ (c .loop-test .left)) in
+    let rounds : loop .rounds ≡ digits .result = omega arith in
+    (q, rounds ∙ digits .ensures ∙ ap digitsOf (sym q), omega arith)
 
 pub find-spec : {M : Type 1} → statement M
 find-spec =
@@ -120,10 +127,10 @@ find-spec =
     Inv-loop
     μ-loop
     root-digits-requires
-    mul-left
     loop-holds
     add-rounds
     sub-left
+    mul-left
     mul-q
     mul-more
     add-more
