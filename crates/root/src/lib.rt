@@ -63,7 +63,7 @@ fn newton(x: u64, g: u32) -> u32 {
     (std::num::wrapping_add_u64(b, x / b) / 2 % 4294967296) as u32
 }
 
-// The root, searched for near a guess first.
+// The root: a better guess is tried before it is searched for.
 fn root_from(x: u64, g: u32) -> u64
     ensures { λ r. ⌜ r ≡ rootOf 1 x ⌝ }
 {

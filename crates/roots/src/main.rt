@@ -37,7 +37,7 @@ fn all_edges() {
     }
 }
 
-// Numbers that look random: the first with all of its 64 digits, each next one with one digit fewer.
+// Numbers that look random: the first of at most 64 digits, each next one of at most one digit fewer.
 fn scattered() {
     let mut x: u64 = 0;
     for k in 0u64..64 {
