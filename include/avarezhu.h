@@ -33,10 +33,10 @@
 #include <stddef.h>
 #include <stdint.h>
 
-/* The version, as a number that grows (20,001 for 2.0.1) and as a string. With another first number
+/* The version, as a number that grows (20,002 for 2.0.2) and as a string. With another first number
  * some texts are drawn to other bytes: frames that were kept from such a version must be drawn again. */
-#define AVAREZHU_VERSION 20001
-#define AVAREZHU_VERSION_STRING "2.0.1"
+#define AVAREZHU_VERSION 20002
+#define AVAREZHU_VERSION_STRING "2.0.2"
 
 /* A compiler that can warns where a reply is dropped. */
 #if defined(__cplusplus) && __cplusplus >= 201703L

@@ -3,6 +3,7 @@
 
     independent.py                  prints 361 lines `k s`: s is the whole number nearest to 16384 * sin(k * pi / 720)
     independent.py --compare FILE   compares FILE with those lines; exit status 1 where they differ
+    independent.py --table FILE     the same for a table of 360 lines `d, // s` in the code: d is how far s is above the sine before it
 
 All arithmetic is on fractions, with no rounding that is not accounted for. Pi is held between two fractions, by Machin's
 formula. The sine is a sum of terms of its series, and the distance to the true sine is bounded:
@@ -13,6 +14,7 @@ formula. The sine is a sum of terms of its series, and the distance to the true 
 Where the interval so found leaves open which whole number is nearest, the program stops with an error.
 """
 import argparse
+import re
 import sys
 from fractions import Fraction
 from math import floor
@@ -64,30 +66,40 @@ def table():
     return entries
 
 
-def compare(expected, path):
-    with open(path, newline="", encoding="latin-1") as f:
-        found = f.read()
+def read(path):
+    with open(path, newline="", encoding="utf-8", errors="replace") as f:
+        return f.read()
+
+
+def compare(name, expected, found):
     if found == expected:
-        print(f"sine: {STEPS + 1} entries agree")
+        print(f"sine: {name}: {len(expected.splitlines())} lines agree")
         return 0
     want, got = expected.split("\n"), found.split("\n")
     for i in range(max(len(want), len(got))):
         a = repr(want[i]) if i < len(want) else "no line"
         b = repr(got[i]) if i < len(got) else "no line"
         if a != b:
-            print(f"sine: line {i + 1}: expected {a}, found {b}")
+            print(f"sine: {name}: line {i + 1}: expected {a}, found {b}")
     return 1
 
 
 def main():
     parser = argparse.ArgumentParser(description=__doc__, formatter_class=argparse.RawDescriptionHelpFormatter)
     parser.add_argument("--compare", metavar="FILE")
+    parser.add_argument("--table", metavar="FILE")
     options = parser.parse_args()
-    expected = "".join(f"{k} {s}\n" for k, s in enumerate(table()))
+    sines = table()
+    lines = "".join(f"{k} {s}\n" for k, s in enumerate(sines))
+    if not options.compare and not options.table:
+        sys.stdout.write(lines)
+    wrong = 0
     if options.compare:
-        return compare(expected, options.compare)
-    sys.stdout.write(expected)
-    return 0
+        wrong |= compare("sines", lines, read(options.compare))
+    if options.table:
+        differences = "".join(f"{b - a}, // {b}\n" for a, b in zip(sines, sines[1:]))
+        wrong |= compare("differences", differences, "".join(re.findall(r"^ *(\d+, // .*\n)", read(options.table), re.M)))
+    return wrong
 
 
 if __name__ == "__main__":

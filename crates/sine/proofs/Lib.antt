@@ -1,2 +1,3 @@
 mod Table
 pub mod Rules
+pub mod Differences

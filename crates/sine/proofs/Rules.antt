@@ -28,18 +28,20 @@ circle-ok s c = within 24000 (s * s + c * c) (2 ^ 28)
 turn-ok : ℕ → ℕ → ℕ → Bool
 turn-ok s c n = within 32768 (16384 * n) (s * sineOf 359 + c * sineOf 1)
 
+next-ok : ℕ → ℕ → ℕ → Bool
+next-ok s c n = leb s n && (within 72 s n && turn-ok s c n)
+
 test : ℕ → ℕ → Bool
 test k s =
     let c = sineOf (360 - k) in
-    let n = sineOf (k + 1) in
-    circle-ok s c && (leb 360 k || leb s n && turn-ok s c n)
+    circle-ok s c && (leb 360 k || next-ok s c (sineOf (k + 1)))
 
 -- the one test over the whole table
 passed : every test 0 sines ≡ true
-unfolding test circle-ok turn-ok within sineOf sines
+unfolding test circle-ok turn-ok next-ok within sineOf sines
 passed = refl
 
-entries : length sines ≡ 361
+pub entries : length sines ≡ 361
 unfolding sines
 entries = refl
 
@@ -50,11 +52,13 @@ ends = (refl, refl, refl)
 module _ (k : ℕ) where
   -- the test at the place k, taken apart
   here : k ≤ 360 → (circle-ok (sineOf k) (sineOf (360 - k)) ≡ true)
-      × ((leb 360 k || leb (sineOf k) (sineOf (k + 1)) && turn-ok (sineOf k) (sineOf (360 - k)) (sineOf (k + 1))) ≡ true)
+      × ((leb 360 k || next-ok (sineOf k) (sineOf (360 - k)) (sineOf (k + 1))) ≡ true)
   unfolding sineOf test
   here h = both (at test sines passed k (omega (arith, entries)))
 
-  next : k < 360 → (leb (sineOf k) (sineOf (k + 1)) ≡ true) × (turn-ok (sineOf k) (sineOf (360 - k)) (sineOf (k + 1)) ≡ true)
+  next : k < 360 → (leb (sineOf k) (sineOf (k + 1)) ≡ true)
+      × ((within 72 (sineOf k) (sineOf (k + 1)) && turn-ok (sineOf k) (sineOf (360 - k)) (sineOf (k + 1))) ≡ true)
+  unfolding next-ok
   next h = both (rw (lt-leb 360 k h) at (here (omega arith) .1))
 
 pub rules : Rules
@@ -65,8 +69,12 @@ rules = record {
   last = ends .2;
   never-falls = λ k h. leb-true _ _ (next k h .0);
   circle = λ k h. within-is (here k h .0);
-  turn = λ k h. within-is (next k h .1);
+  turn = λ k h. within-is (both {a = within 72 (sineOf k) (sineOf (k + 1))} (next k h .1) .1);
 }
+
+-- "no two neighbours differ by more than 72" (T-09)
+pub neighbors : (k : ℕ) → k < 360 → AtMostApart 72 (sineOf k) (sineOf (k + 1))
+neighbors k h = within-is (both (next k h .1) .0)
 
 -- twice a product is at most the sum of the two squares
 squares : (a b : ℕ) → 2 * (a * b) ≤ a * a + b * b
