@@ -31,28 +31,29 @@ count : length (differencesOf sines) ≡ 360
 unfolding sines differencesOf
 count = refl
 
--- the difference at k leads from a rebuilt sine to the next, and from an entry to the next
-module _ (k : ℕ) where
-  rebuilt-next : rebuiltOf (k + 1) ≡ rebuiltOf k + getD (differencesOf sines) k 0
-  unfolding rebuiltOf
-  rebuilt-next = rw add-one (sum-next (differencesOf sines) k)
+-- the entry at k and the difference there make the next entry
+sine-next : (k : ℕ) → k < 360 → sineOf (k + 1) ≡ sineOf k + getD (differencesOf sines) k 0
+unfolding sineOf
+sine-next k h = omega (arith, rw (← add-one k) at (difference sines k (omega (arith, entries))), rules .never-falls k h)
 
-  sine-next : k < 360 → sineOf (k + 1) ≡ sineOf k + getD (differencesOf sines) k 0
-  unfolding sineOf
-  sine-next h = omega (arith, rw (← add-one k) at (difference sines k (omega (arith, entries))), rules .never-falls k h)
+-- .. and a rebuilt sine and the difference the next rebuilt one, in a list l that is known to hold the differences
+pub next-sum : {l : List ℕ} → l ≡ differencesOf sines → (k : ℕ) → rebuiltOf k + getD l k 0 ≡ rebuiltOf (k + 1)
+unfolding rebuiltOf
+next-sum e k = rw (e, add-one) (sym (sum-next (differencesOf sines) k))
 
 same : (k : ℕ) → k ≤ 360 → rebuiltOf k ≡ sineOf k
 unfolding rebuiltOf sumOf
 same zero h = sym (rules .first)
-same (suc k) h = rw (← add-one k) (omega (arith, rebuilt-next k, same k (omega arith), sine-next k h))
+same (suc k) h = rw (← add-one k) (omega (arith, next-sum refl k, same k (omega arith), sine-next k h))
 
 pub rebuilt : Rebuilt
-rebuilt = record { count = count; near = neighbors; same = same }
+rebuilt = record {
+  count = count;
+  byte = λ k h. omega (arith, sine-next k h, neighbors k h .down);
+  near = neighbors;
+  same = same;
+}
 
--- a step along a table l that holds the differences: to the next sine, and to no more than two entries may have together
-module _ {l : List ℕ} (e : l ≡ differencesOf sines) (k : ℕ) (h : k < 360) where
-  pub next-sum : rebuiltOf k + getD l k 0 ≡ rebuiltOf (k + 1)
-  next-sum = rw e (sym (rebuilt-next k))
-
-  pub next-small : rebuiltOf k + getD l k 0 ≤ 23171
-  next-small = omega (arith, next-sum, same (k + 1) (omega arith), parts (k + 1) (omega arith) .sum)
+-- no sum on the way is above what two entries may have together
+pub next-small : {l : List ℕ} → l ≡ differencesOf sines → (k : ℕ) → k < 360 → rebuiltOf k + getD l k 0 ≤ 23171
+next-small e k h = omega (arith, next-sum e k, same (k + 1) (omega arith), parts (k + 1) (omega arith) .sum)

@@ -4,7 +4,7 @@
 use mathlib.Core.Path.{_≡_}
 use mathlib.Core.List.{List, [], _∷_}
 use Prim.Native.Nat.{ℕ, _+_, _-_, _≤_, _<_}
-use lib.ListN.{length, take}
+use lib.ListN.{length, getD, take}
 use Rattle.sine.specs.Sines.{sines, sineOf, AtMostApart}
 
 -- how far each number is above the one before it
@@ -25,6 +25,7 @@ rebuiltOf k = sumOf (take k (differencesOf sines))
 pub record Rebuilt : Type 0 where
   -- "360 one-byte differences"
   pub count : length (differencesOf sines) ≡ 360
+  pub byte : (k : ℕ) → k < 360 → getD (differencesOf sines) k 0 < 256
   -- "no two neighbours differ by more than 72"
   pub near : (k : ℕ) → k < 360 → AtMostApart 72 (sineOf k) (sineOf (k + 1))
   -- "every rebuilt sine equals the old entry"

@@ -37,7 +37,7 @@ loop-less c = omega arith
 loop-again : tie.Need-loop-again Inv-loop μ-loop
 loop-again c =
     let loop = c .before .loop in
-    (loop .inv .0, omega arith, omega (arith, next-sum (loop .inv .0) (loop .i) (omega arith)))
+    (loop .inv .0, omega arith, omega (arith, next-sum (loop .inv .0) (loop .i)))
 
 returns : tie.Need-returns Inv-loop μ-loop
 returns c =
