@@ -33,10 +33,10 @@
 #include <stddef.h>
 #include <stdint.h>
 
-/* The version, as a number that grows (20,002 for 2.0.2) and as a string. With another first number
+/* The version, as a number that grows (20,100 for 2.1.0) and as a string. With another first number
  * some texts are drawn to other bytes: frames that were kept from such a version must be drawn again. */
-#define AVAREZHU_VERSION 20002
-#define AVAREZHU_VERSION_STRING "2.0.2"
+#define AVAREZHU_VERSION 20100
+#define AVAREZHU_VERSION_STRING "2.1.0"
 
 /* A compiler that can warns where a reply is dropped. */
 #if defined(__cplusplus) && __cplusplus >= 201703L
@@ -53,7 +53,7 @@
 extern "C" {
 #endif
 
-/* Replies. If several apply, the lowest is given. */
+/* Replies. If several apply, the first in this order is given: 1, 8, 2, 3, 4, 5, 6. */
 enum avarezhu_reply {
     /* The answer is in the lent slice. */
     AVAREZHU_DONE = 0,
@@ -84,7 +84,12 @@ enum avarezhu_reply {
 
     /* There are more than 16 stops.
      * Wrong: seventeen colors between commas. Right: sixteen. */
-    AVAREZHU_TOO_MANY_STOPS = 6
+    AVAREZHU_TOO_MANY_STOPS = 6,
+
+    /* The rows of a strip are none, or go past the picture: first is not below end, or end is above
+     * the height.
+     * Wrong: rows 448 up to 512 of a picture that is 480 high. Right: rows 448 up to 480. */
+    AVAREZHU_BAD_ROWS = 8
 };
 
 /* What a reply means, as a sentence for people. */
@@ -105,6 +110,8 @@ static inline const char *avarezhu_message(uint32_t reply)
         return "A number is out of its range.";
     case AVAREZHU_TOO_MANY_STOPS:
         return "There are more than 16 color stops.";
+    case AVAREZHU_BAD_ROWS:
+        return "The rows of the strip are none, or go past the height.";
     default:
         return "This is not a reply of the library.";
     }
@@ -117,7 +124,7 @@ static inline const char *avarezhu_message(uint32_t reply)
 #define AVAREZHU_SIDE_MAX 2048     /* greatest width and height of a box, in pixels */
 #define AVAREZHU_STOPS_MAX 16      /* greatest number of stops */
 
-/* The bytes of a picture in a box that is not too large. */
+/* The bytes of a picture in a box that is not too large, or of a strip with so many rows. */
 #define AVAREZHU_PIXELS_SIZE(width, height) (4 * (size_t)(width) * (size_t)(height))
 
 /* The bytes of the PNG file of a picture in a box that is not too large. */
@@ -164,7 +171,34 @@ AVAREZHU_REPLY avarezhu_draw_gradient(const uint8_t *gradient, size_t gradient_l
                                       uint8_t *pixels, size_t pixels_length);
 
 /*
- * The same with stops of your own: direction or circle come from the gradient, colors and positions
+ * Drawing in strips: rows first up to, not including, end of that picture, counted from 0 at the top.
+ * Leaves AVAREZHU_PIXELS_SIZE(width, end - first) bytes, and no call needs room for more. The strips of
+ * a picture, one after the other, are its bytes, wherever it is cut; a whole picture is the strip of
+ * rows 0 up to height. Replies: 0 to 6 and 8; only avarezhu_draw_rows gives 3.
+ *
+ *     uint8_t strip[AVAREZHU_PIXELS_SIZE(640, 64)];
+ *     size_t first, end;
+ *     for (first = 0; first < 480; first = end) {
+ *         end = 480 - first < 64 ? 480 : first + 64;
+ *         reply = avarezhu_draw_rows(text, length, 640, 480, first, end, strip, sizeof strip);
+ *         if (reply != AVAREZHU_DONE)
+ *             break; // no strip of this picture would be drawn
+ *         show(strip, first, end);
+ *     }
+ *
+ * Each call reads the text, or takes the gradient, afresh. Strips of one picture may be drawn on
+ * several threads at once, also into parts of one buffer that do not overlap.
+ */
+AVAREZHU_REPLY avarezhu_draw_rows(const char *text, size_t text_length,
+                                  size_t width, size_t height, size_t first, size_t end,
+                                  uint8_t *pixels, size_t pixels_length);
+
+AVAREZHU_REPLY avarezhu_draw_gradient_rows(const uint8_t *gradient, size_t gradient_length,
+                                           size_t width, size_t height, size_t first, size_t end,
+                                           uint8_t *pixels, size_t pixels_length);
+
+/*
+ * The whole picture with stops of your own: direction or circle come from the gradient, colors and positions
  * from the stops. The gradient's own stops are judged but not drawn. Both slices are judged, and the
  * lower reply of the two is given.
  */

@@ -37,6 +37,30 @@ CHARTS = [
     (1, 1, 6, "linear-gradient(45.1deg, red, blue)"),
 ]
 
+# width, height, first row, end of the rows, length of the buffer, text
+SLANTED = "linear-gradient(to top right, black, white)"
+TEXT = "linear-gradient(red, blue)"
+STRIPS = [
+    (3, 4, 0, 1, 12, SLANTED),
+    (3, 4, 1, 3, 26, SLANTED),
+    (3, 4, 3, 4, 12, SLANTED),
+    (3, 4, 0, 4, 50, SLANTED),
+    (1, 16, 6, 14, 32, "linear-gradient(red 40%, white, black, blue)"),
+    (5, 3, 2, 3, 24, "linear-gradient(to left, red -50%, white, blue)"),
+    (4, 4, 2, 4, 32, "radial-gradient(circle closest-side at 30% 40%, red, lime 1px, blue 1px, #1234)"),
+    (2, 2000, 999, 1001, 16, "radial-gradient(circle, red, blue 2px)"),
+    (2, 2, 1, 1, 8, TEXT),
+    (2, 2, 1, 3, 16, TEXT),
+    (2, 2, 2**64 - 1, 1, 8, TEXT),
+    (2, 2, 0, 2**64 - 1, 8, TEXT),
+    (2, 2, 1, 2, 7, TEXT),
+    (0, 2, 1, 1, 8, TEXT),
+    (2, 2, 1, 1, 0, TEXT),
+    (2, 2, 1, 1, 8, TEXT[:-1]),
+    (2, 2, 1, 2, 7, TEXT[:-1]),
+    (2, 2, 1, 2, 9, TEXT[:-1]),
+]
+
 # What document 01 itself says of three of them (P1, P2 and P9): the bytes from the start on.
 STATED = {
     0: [32, 32, 32, 255, 96, 96, 96, 255, 159, 159, 159, 255, 223, 223, 223, 255],
@@ -127,35 +151,41 @@ def premultiplied(digits):
     return [channel * alpha for channel in color] + [255 * alpha]
 
 
-def picture(line, width, height):
+def rows(line, width, height, first, end):
     head, *stops = line[2:].split(" | ")
     kind, *words = head.split()
     shape = (Linear if kind == "linear" else Circle)(words, width, height)
     written = [(stop.split() + [None])[:2] for stop in stops]
     placed = place([position for _, position in written], shape.length)
     stops = [(position, premultiplied(color[1:])) for position, (color, _) in zip(placed, written)]
-    return [byte for j in range(height) for i in range(width) for byte in pixel(stops, shape.location(i, j))]
+    return [byte for j in range(first, end) for i in range(width) for byte in pixel(stops, shape.location(i, j))]
 
 
-def draw(width, height, room, text):
+def draw(width, height, first, end, room, text):
     """The reply and the bytes left in a buffer."""
     if not (1 <= width <= 2048 and 1 <= height <= 2048):
         return 1, [0] * room
-    if room < 4 * width * height:
+    if not first < end <= height:
+        return 8, [0] * room
+    if room < 4 * width * (end - first):
         return 2, [0] * room
     line = read(text.encode())
     if not line.startswith("0 "):
         return int(line[0]), [0] * room
-    drawn = picture(line, width, height)
+    drawn = rows(line, width, height, first, end)
     return 0, drawn + [0] * (room - len(drawn))
 
 
 def lines():
     for k, (width, height, room, text) in enumerate(CHARTS):
-        reply, left = draw(width, height, room, text)
+        reply, left = draw(width, height, 0, height, room, text)
         stated = STATED.get(k, [])
         assert left[: len(stated)] == stated, f"chart {k} is not what document 01 says"
         yield f"{width}x{height} in {room} {text}"
+        yield f"{reply}:" + "".join(f" {byte}" for byte in left)
+    for width, height, first, end, room, text in STRIPS:
+        reply, left = draw(width, height, first, end, room, text)
+        yield f"rows {first} up to {end} of {width}x{height} in {room} {text}"
         yield f"{reply}:" + "".join(f" {byte}" for byte in left)
 
 
@@ -171,7 +201,7 @@ def main():
     if differing or len(found) != len(expected):
         print(f"drawing: {len(differing)} lines differ; {len(found)} lines from the rules, {len(expected)} in the file")
         return 1
-    print(f"drawing: {len(CHARTS)} charts agree")
+    print(f"drawing: {len(CHARTS)} charts and {len(STRIPS)} strips agree")
     return 0
 
 

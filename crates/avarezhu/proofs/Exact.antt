@@ -7,7 +7,7 @@ use Prim.Native.Nat.{ℕ, _-_, _≤_}
 use native.Mathlib.Omega.{arith}
 use lib.ListN.{length, replicate, length-append, length-replicate}
 use Rattle.replies.specs.Replies.{lowest}
-use Rattle.replies.specs.Room.{roomReply}
+use Rattle.replies.specs.Room.{stripReply, roomReply}
 use Rattle.replies.proofs.Laws.{orElse-zero, lowest-zero}
 use Rattle.gradient.specs.Check.{checkOf}
 use Rattle.gradient.specs.declared.Gradient.{Gradient}
@@ -28,7 +28,7 @@ use Rattle.layout.proofs.Exact as gradient-exact
 use Rattle.stopslayout.specs.Words.{placedLayoutOf}
 use Rattle.stopslayout.specs.Taken.{takenStopsReply, takenStopsOf}
 use Rattle.stopslayout.proofs.Exact as stops-exact
-use Rattle.avarezhu.specs.Calls.{placedLayout, stopsRoom, placeGradientCall, drawGradientCall, drawStopsCall}
+use Rattle.avarezhu.specs.Calls.{placedLayout, stopsRoom, placeGradientCall, drawGradientRowsCall, drawGradientCall, drawStopsCall}
 
 -- ---- what is given is taken
 -- the layout of a gradient that reading gives is taken, and gives that gradient
@@ -67,8 +67,11 @@ is-list p e = let k = stops-exact.taken-only p e in record { layout = k .0; acce
 pub placed-only : (g : List ℕ) (w h n : ℕ) → placeGradientCall g w h n ≡ 0 → IsGradient g
 placed-only g w h n e = is-gradient g (orElse-zero (stopsRoom w h n) (takenReply g) e .1)
 
+pub rows-only : (g : List ℕ) (w h first end n : ℕ) → drawGradientRowsCall g w h first end n ≡ 0 → IsGradient g
+rows-only g w h first end n e = is-gradient g (orElse-zero (stripReply w h first end n) (takenReply g) e .1)
+
 pub drawn-only : (g : List ℕ) (w h n : ℕ) → drawGradientCall g w h n ≡ 0 → IsGradient g
-drawn-only g w h n e = is-gradient g (orElse-zero (roomReply w h n) (takenReply g) e .1)
+drawn-only g w h n e = rows-only g w h 0 h n e
 
 pub drawn-both : (g p : List ℕ) (w h n : ℕ) → drawStopsCall g p w h n ≡ 0 → IsGradient g × IsList p
 drawn-both g p w h n e =

@@ -1,3 +1,4 @@
 pub mod Slices
 pub mod Exact
 pub mod Grammar
+pub mod Strips

@@ -5,7 +5,7 @@ use mathlib.Core.List.{List, map}
 use Prim.Native.Nat.{ℕ, zero, suc}
 use lib.ListN.{length}
 use Rattle.replies.specs.Replies.{lowest}
-use Rattle.replies.specs.Room.{roomReply}
+use Rattle.replies.specs.Room.{stripReply, roomReply}
 use Rattle.replies.specs.Handed.{Handed}
 use Rattle.replies.proofs.Laws.{lowest-zero, room-zero}
 use Rattle.gradient.specs.Check.{checkOf}
@@ -18,8 +18,8 @@ use Rattle.placing.specs.Placed.{placedIn}
 use Rattle.placing.specs.Reply.{handedOut, placeReply, placeOf}
 use Rattle.color.specs.Stop.{stopOf}
 use Rattle.picture.specs.Picture.{buffer}
-use Rattle.drawing.specs.Replies.{gradientReply, stopsReply}
-use Rattle.drawing.specs.Drawn.{Drawn}
+use Rattle.drawing.specs.Replies.{gradientRowsReply, stopsReply}
+use Rattle.drawing.specs.Drawn.{DrawnRows, Drawn}
 use Rattle.from_text.specs.Text.{placeTextReply, placeTextOf}
 use Rattle.layout.specs.declared.Taken.{Taken}
 use Rattle.layout.specs.Taken.{takenReply, takenOf}
@@ -28,7 +28,7 @@ use Rattle.stopslayout.specs.declared.TakenStops.{TakenStops}
 use Rattle.stopslayout.specs.Words.{placedLayoutOf}
 use Rattle.stopslayout.specs.Taken.{takenStopsReply, takenStopsOf}
 use Rattle.stopslayout.proofs.Exact as stops-exact
-use Rattle.avarezhu.specs.Calls.{stopsSize, stopsRoom, placeCall, placeGradientCall, drawGradientCall, drawStopsCall, placedLayout, takenRule, gradientStops, listStops}
+use Rattle.avarezhu.specs.Calls.{stopsSize, stopsRoom, placeCall, placeGradientCall, drawGradientRowsCall, drawStopsCall, placedLayout, takenRule, gradientStops, listStops}
 
 -- ---- what is handed out in a lent slice
 -- after a refusal it makes no difference which stops there would have been
@@ -77,13 +77,13 @@ module _ (g : List ℕ) (t : Taken) (e : t ≡ takenOf g) (z : t .reply ≡ 0) w
   handed-taken w h p {before = before} room k hand =
       handed-list p _ (rw (k, e, room, room-zero w h stopsSize (length before) room .box, accepted, reply-zero)) (rw (k, e)) hand
 
-  -- its picture
-  pub drawn-taken : (w h r : ℕ) (before after : List ℕ) → roomReply w h (length before) ≡ 0
-      → Drawn (gradientReply (t .gradient) w h (length before)) (ruleOf (t .gradient .shape) w h) (map stopOf (placedIn (t .gradient) w h)) w h r before after
-      → Drawn (drawGradientCall g w h (length before)) (takenRule g w h) (gradientStops g w h) w h r before after
-  drawn-taken w h r before after room d =
-      let k = subst (λ (x : Taken). Drawn (gradientReply (x .gradient) w h (length before)) (ruleOf (x .gradient .shape) w h) (map stopOf (placedIn (x .gradient) w h)) w h r before after) e d in
-      let same : gradientReply (takenOf g .gradient) w h (length before) ≡ drawGradientCall g w h (length before) = rw (room, accepted, reply-zero) in
+  -- a strip of its picture
+  pub drawn-taken : (w h a b r : ℕ) (before after : List ℕ) → stripReply w h a b (length before) ≡ 0
+      → DrawnRows (gradientRowsReply (t .gradient) w h a b (length before)) (ruleOf (t .gradient .shape) w h) (map stopOf (placedIn (t .gradient) w h)) w a b r before after
+      → DrawnRows (drawGradientRowsCall g w h a b (length before)) (takenRule g w h) (gradientStops g w h) w a b r before after
+  drawn-taken w h a b r before after room d =
+      let k = subst (λ (x : Taken). DrawnRows (gradientRowsReply (x .gradient) w h a b (length before)) (ruleOf (x .gradient .shape) w h) (map stopOf (placedIn (x .gradient) w h)) w a b r before after) e d in
+      let same : gradientRowsReply (takenOf g .gradient) w h a b (length before) ≡ drawGradientRowsCall g w h a b (length before) = rw (room, accepted, reply-zero) in
       record { reply = k .reply ∙ same; bytes-left = k .bytes-left; pixels = k .pixels }
 
 -- ---- a gradient and placed stops that were taken together

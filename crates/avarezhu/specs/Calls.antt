@@ -4,7 +4,7 @@
 use mathlib.Core.List.{List, map}
 use Prim.Native.Nat.{ℕ}
 use Rattle.replies.specs.Replies.{_orElse_, lowest}
-use Rattle.replies.specs.Room.{sizeReply, roomFor, roomReply}
+use Rattle.replies.specs.Room.{sizeReply, roomFor, stripReply, roomReply}
 use Rattle.gradient.specs.declared.Gradient.{Gradient}
 use Rattle.line.specs.Line.{ruleOf}
 use Rattle.line.specs.Location.{Rule}
@@ -38,7 +38,10 @@ placeCall text w h n = stopsRoom w h n orElse readOf text .reply
 abbrev pub placeGradientCall : List ℕ → ℕ → ℕ → ℕ → ℕ
 placeGradientCall g w h n = stopsRoom w h n orElse takenReply g
 
--- drawing: the box, the lent buffer, and then what is drawn; a gradient and placed stops are judged together
+-- drawing: the box, the rows, the lent buffer, and then what is drawn; a gradient and placed stops are judged together
+abbrev pub drawGradientRowsCall : List ℕ → ℕ → ℕ → ℕ → ℕ → ℕ → ℕ
+drawGradientRowsCall g w h first end n = stripReply w h first end n orElse takenReply g
+
 abbrev pub drawGradientCall : List ℕ → ℕ → ℕ → ℕ → ℕ
 drawGradientCall g w h n = roomReply w h n orElse takenReply g
 

@@ -6,13 +6,13 @@ ghost use Prim.Native.Nat.{_≤_};
 ghost use lib.ListN.{length};
 ghost use Rattle.replies.specs.Handed.{Handed};
 ghost use Rattle.reader.specs.Reading.{readOf};
-ghost use Rattle.from_text.specs.Text.{drawTextReply, textRule, textStops};
-ghost use Rattle.drawing.specs.Drawn.{Drawn};
+ghost use Rattle.from_text.specs.Text.{drawRowsReply, drawTextReply, textRule, textStops};
+ghost use Rattle.drawing.specs.Drawn.{DrawnRows, Drawn};
 ghost use Rattle.to_png.specs.File.{pngReply, pngOf};
 ghost use Rattle.layout.specs.Words.{layoutOf};
 ghost use Rattle.layout.specs.Taken.{takenOf};
 ghost use Rattle.stopslayout.specs.Words.{placedLayoutOf};
-ghost use Rattle.avarezhu.specs.Calls.{readCall, placeCall, placeGradientCall, drawGradientCall, drawStopsCall, placedLayout, takenRule, gradientStops, listStops};
+ghost use Rattle.avarezhu.specs.Calls.{readCall, placeCall, placeGradientCall, drawGradientRowsCall, drawGradientCall, drawStopsCall, placedLayout, takenRule, gradientStops, listStops};
 
 // ---- reading
 
@@ -85,6 +85,22 @@ pub extern "C" fn avarezhu_place_gradient(
 
 // ---- drawing
 
+// Draws rows `first` up to `end` of a text.
+#[no_mangle]
+pub extern "C" fn avarezhu_draw_rows(
+    text: &[u8],
+    w: usize,
+    h: usize,
+    first: usize,
+    end: usize,
+    pixels: &mut [u8],
+) -> u32
+    ensures { λ r. ⌜ DrawnRows (drawRowsReply (now (text .entry)) w h first end (length (now (pixels .entry)))) (textRule (now (text .entry)) w h)
+        (textStops (now (text .entry)) w h) w first end r (now (pixels .entry)) (now (pixels .exit)) ⌝ }
+{
+    from_text::draw_text_rows(text, w, h, first, end, pixels)
+}
+
 // Draws a text.
 #[no_mangle]
 pub extern "C" fn avarezhu_draw(text: &[u8], w: usize, h: usize, pixels: &mut [u8]) -> u32
@@ -92,6 +108,30 @@ pub extern "C" fn avarezhu_draw(text: &[u8], w: usize, h: usize, pixels: &mut [u
         (textStops (now (text .entry)) w h) w h r (now (pixels .entry)) (now (pixels .exit)) ⌝ }
 {
     from_text::draw_text(text, w, h, pixels)
+}
+
+// Draws rows `first` up to `end` of a gradient that is handed in.
+#[no_mangle]
+pub extern "C" fn avarezhu_draw_gradient_rows(
+    gradient: &[u8],
+    w: usize,
+    h: usize,
+    first: usize,
+    end: usize,
+    pixels: &mut [u8],
+) -> u32
+    ensures { λ r. ⌜ DrawnRows (drawGradientRowsCall (now (gradient .entry)) w h first end (length (now (pixels .entry)))) (takenRule (now (gradient .entry)) w h)
+        (gradientStops (now (gradient .entry)) w h) w first end r (now (pixels .entry)) (now (pixels .exit)) ⌝ }
+{
+    let r = replies::strip_reply(w, h, first, end, pixels.len());
+    if r != DONE {
+        return replies::refuse(pixels, r);
+    }
+    let taken = layout::take(gradient);
+    if taken.reply != DONE {
+        return replies::refuse(pixels, taken.reply);
+    }
+    drawing::draw_gradient_rows(taken.gradient, w, h, first, end, pixels)
 }
 
 // Draws a gradient that is handed in.
@@ -105,15 +145,7 @@ pub extern "C" fn avarezhu_draw_gradient(
     ensures { λ r. ⌜ Drawn (drawGradientCall (now (gradient .entry)) w h (length (now (pixels .entry)))) (takenRule (now (gradient .entry)) w h)
         (gradientStops (now (gradient .entry)) w h) w h r (now (pixels .entry)) (now (pixels .exit)) ⌝ }
 {
-    let r = replies::room_reply(w, h, pixels.len());
-    if r != DONE {
-        return replies::refuse(pixels, r);
-    }
-    let taken = layout::take(gradient);
-    if taken.reply != DONE {
-        return replies::refuse(pixels, taken.reply);
-    }
-    drawing::draw_gradient(taken.gradient, w, h, pixels)
+    avarezhu_draw_gradient_rows(gradient, w, h, 0, h, pixels)
 }
 
 // Draws placed stops that are handed in, along the direction, or from the circle's center, of a gradient that is handed in.

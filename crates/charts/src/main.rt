@@ -1,5 +1,5 @@
-// Draws charts from their text, those of document 01 among them, and texts and buffers that are refused; prints for each the reply and every byte
-// of the buffer, which holds 1 in every byte before. tests/drawing/independent.py finds the same lines from the rules alone.
+// Draws charts from their text, those of document 01 among them, strips of charts, and texts, rows and buffers that are refused; prints for each the
+// reply and every byte of the buffer, which holds 1 in every byte before. tests/drawing/independent.py finds the same lines from the rules alone.
 use libc::STDOUT_FILENO;
 ghost use Prim.Native.Nat.{_≤_};
 
@@ -21,16 +21,21 @@ fn say_bytes(s: &[u8]) {
     say(b"\n");
 }
 
-// Draws a text in a box of w by h pixels into a buffer, and prints what is left there.
-fn show(s: &[u8], w: usize, h: usize, buf: &mut [u8]) {
+// Prints a box, the length of a buffer, and a text.
+fn say_box(s: &[u8], w: usize, h: usize, n: usize) {
     io::print_decimal(STDOUT_FILENO, w as u64);
     say(b"x");
     io::print_decimal(STDOUT_FILENO, h as u64);
     say(b" in ");
-    io::print_decimal(STDOUT_FILENO, buf.len() as u64);
+    io::print_decimal(STDOUT_FILENO, n as u64);
     say(b" ");
     say(s);
     say(b"\n");
+}
+
+// Draws a text in a box of w by h pixels into a buffer, and prints what is left there.
+fn show(s: &[u8], w: usize, h: usize, buf: &mut [u8]) {
+    say_box(s, w, h, buf.len());
     let r = from_text::draw_text(s, w, h, buf);
     io::print_decimal(STDOUT_FILENO, r as u64);
     say(b":");
@@ -43,6 +48,28 @@ fn draw(s: &[u8], w: usize, h: usize, n: usize)
 {
     let mut buf: [u8; 64] = [1; 64];
     show(s, w, h, &mut buf[..n]);
+}
+
+// Draws rows `first` up to `end` of a text into a buffer, and prints what is left there.
+fn show_rows(s: &[u8], w: usize, h: usize, first: usize, end: usize, buf: &mut [u8]) {
+    say(b"rows ");
+    io::print_decimal(STDOUT_FILENO, first as u64);
+    say(b" up to ");
+    io::print_decimal(STDOUT_FILENO, end as u64);
+    say(b" of ");
+    say_box(s, w, h, buf.len());
+    let r = from_text::draw_text_rows(s, w, h, first, end, buf);
+    io::print_decimal(STDOUT_FILENO, r as u64);
+    say(b":");
+    say_bytes(buf);
+}
+
+// The same with a buffer of n bytes.
+fn draw_rows(s: &[u8], w: usize, h: usize, first: usize, end: usize, n: usize)
+    requires { ⌜ n ≤ 64 ⌝ }
+{
+    let mut buf: [u8; 64] = [1; 64];
+    show_rows(s, w, h, first, end, &mut buf[..n]);
 }
 
 fn draw_accepted() {
@@ -93,6 +120,22 @@ fn draw_between_units() {
     );
 }
 
+fn draw_strips() {
+    let slanted = b"linear-gradient(to top right, black, white)";
+    draw_rows(slanted, 3, 4, 0, 1, 12);
+    draw_rows(slanted, 3, 4, 1, 3, 26);
+    draw_rows(slanted, 3, 4, 3, 4, 12);
+    draw_rows(slanted, 3, 4, 0, 4, 50);
+    let upright = b"linear-gradient(red 40%, white, black, blue)";
+    draw_rows(upright, 1, 16, 6, 14, 32);
+    let flat = b"linear-gradient(to left, red -50%, white, blue)";
+    draw_rows(flat, 5, 3, 2, 3, 24);
+    let round = b"radial-gradient(circle closest-side at 30% 40%, red, lime 1px, blue 1px, #1234)";
+    draw_rows(round, 4, 4, 2, 4, 32);
+    let tall = b"radial-gradient(circle, red, blue 2px)";
+    draw_rows(tall, 2, 2000, 999, 1001, 16);
+}
+
 fn draw_refused() {
     draw(b"linear-gradient(red, blue)", 0, 1, 8);
     draw(b"linear-gradient(red, blue)", 1, 2049, 8);
@@ -102,8 +145,26 @@ fn draw_refused() {
     draw(b"linear-gradient(45.1deg, red, blue)", 1, 1, 6);
 }
 
+// Of two reasons to refuse, the first in the order 1, 8, 2, 3 to 6 is given.
+fn draw_refused_rows() {
+    let text = b"linear-gradient(red, blue)";
+    let slip = b"linear-gradient(red, blue";
+    draw_rows(text, 2, 2, 1, 1, 8);
+    draw_rows(text, 2, 2, 1, 3, 16);
+    draw_rows(text, 2, 2, 18446744073709551615, 1, 8);
+    draw_rows(text, 2, 2, 0, 18446744073709551615, 8);
+    draw_rows(text, 2, 2, 1, 2, 7);
+    draw_rows(text, 0, 2, 1, 1, 8);
+    draw_rows(text, 2, 2, 1, 1, 0);
+    draw_rows(slip, 2, 2, 1, 1, 8);
+    draw_rows(slip, 2, 2, 1, 2, 7);
+    draw_rows(slip, 2, 2, 1, 2, 9);
+}
+
 fn main() {
     draw_accepted();
     draw_between_units();
     draw_refused();
+    draw_strips();
+    draw_refused_rows();
 }

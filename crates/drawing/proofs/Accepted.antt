@@ -2,12 +2,10 @@
 -- Assumes nothing.
 use mathlib.Core.Path.{_≡_}
 use mathlib.Core.List.{List, map}
-use Prim.Native.Nat.{ℕ, _-_, _<_}
-use native.Mathlib.Nat.{le-refl}
+use Prim.Native.Nat.{ℕ, _<_}
 use native.Mathlib.Omega.{arith}
-use Rattle.replies.specs.Room.{roomReply}
-use Rattle.replies.proofs.Laws.{orElse-zero, lowest-zero, picture-zero}
-use Rattle.gradient.specs.Lists.{all}
+use Rattle.replies.specs.Room.{stripReply}
+use Rattle.replies.proofs.Laws.{orElse-zero, lowest-zero, strip-zero}
 use Rattle.gradient.specs.Check.{Accepted}
 use Rattle.gradient.specs.declared.Gradient.{Gradient}
 use Rattle.gradient.proofs.Laws.{accepted}
@@ -28,23 +26,17 @@ use Rattle.color.specs.Numbers.{Lendable}
 use Rattle.picture.specs.Picture.{strip}
 use Rattle.rows.specs.Pixel.{pixelOf, rampPixel, stripOf, Rows}
 use Rattle.rows.specs.declared.Strip.{Strip}
-use Rattle.drawing.specs.Replies.{gradientReply, stopsReply}
+use Rattle.drawing.specs.Replies.{gradientRowsReply, stopsReply}
 use Rattle.drawing.specs.Inner.{Painted}
 
--- all rows of a box
-abbrev pub allRows : ℕ → ℕ → Strip
-allRows w h = record { w = w; h = h; a = 0; b = h }
-
-pub record Room (w h n : ℕ) : Type 0 where
+pub record Room (w h a b n : ℕ) : Type 0 where
   pub box : Box w h
-  pub all-rows : Rows (allRows w h) n
+  pub rows : Rows (record { w = w; h = h; a = a; b = b }) n
 
-pub roomy : (w h n : ℕ) → roomReply w h n ≡ 0 → Room w h n
-roomy w h n e =
-    let k = picture-zero w h n e in
-    let b = box-is w h (k .box) in
-    let z : h - 0 ≡ h = omega arith in
-    record { box = b; all-rows = record { some = b .some-height; within = le-refl h; room = rw z (k .enough) } }
+pub roomy : (w h a b n : ℕ) → stripReply w h a b n ≡ 0 → Room w h a b n
+roomy w h a b n e =
+    let k = strip-zero w h a b n e in
+    record { box = box-is w h (k .box); rows = record { some = k .some; within = k .within; room = k .enough } }
 
 pub record Ready (p : PlacedStops) : Type 0 where
   pub lendable : Lendable p
@@ -57,15 +49,15 @@ ready p e =
     record { lendable = record { fit = a .fit; range = accepted-places p a; rising = a .rising }; some = omega (arith, a .two) }
 
 -- ---- the reply 0 of the two calls
-pub record Drawable (g : Gradient) (w h n : ℕ) : Type 0 where
-  pub room : Room w h n
+pub record Drawable (g : Gradient) (w h a b n : ℕ) : Type 0 where
+  pub room : Room w h a b n
   pub gradient : Accepted g
 
-pub drawable : (g : Gradient) (w h n : ℕ) → gradientReply g w h n ≡ 0 → Drawable g w h n
-drawable g w h n e = let k = orElse-zero _ _ e in record { room = roomy w h n (k .0); gradient = accepted g (k .1) }
+pub drawable : (g : Gradient) (w h a b n : ℕ) → gradientRowsReply g w h a b n ≡ 0 → Drawable g w h a b n
+drawable g w h a b n e = let k = orElse-zero _ _ e in record { room = roomy w h a b n (k .0); gradient = accepted g (k .1) }
 
 pub record Along (g : Gradient) (p : PlacedStops) (w h n : ℕ) : Type 0 where
-  pub room : Room w h n
+  pub room : Room w h 0 h n
   pub gradient : Accepted g
   pub stops : Ready p
 
@@ -73,7 +65,7 @@ pub along : (g : Gradient) (p : PlacedStops) (w h n : ℕ) → stopsReply g p w 
 along g p w h n e =
     let k = orElse-zero _ _ e in
     let l = lowest-zero _ _ (k .1) in
-    record { room = roomy w h n (k .0); gradient = accepted g (l .0); stops = ready p (l .1) }
+    record { room = roomy w h 0 h n (k .0); gradient = accepted g (l .0); stops = ready p (l .1) }
 
 -- ---- what is drawn of a ramp
 pub same-picture : (ss : List PlacedStop) (r : List ℕ) → Made ss r → (l : Line) (z : Strip)

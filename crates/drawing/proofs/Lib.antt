@@ -1,2 +1,3 @@
 pub mod Accurate
 pub mod Accepted
+pub mod Strips

@@ -1,8 +1,8 @@
--- What a drawing call leaves in a lent buffer, and how near each pixel is to the exact color: the demands 1, 2 and 3, in one record.
+-- What a drawing call leaves in a lent buffer, and how near each pixel is to the exact color: the demands 1, 2 and 3, in one record about a strip.
 -- Assumes nothing.
 use mathlib.Core.Path.{_≡_}
 use mathlib.Core.List.{List}
-use Prim.Native.Nat.{ℕ, _+_, _*_, _<_}
+use Prim.Native.Nat.{ℕ, _+_, _-_, _*_, _≤_, _<_}
 use lib.IntN.{pos}
 use lib.ListN.{length, getD}
 use Rattle.root.specs.Root.{IsRoot}
@@ -10,7 +10,7 @@ use Rattle.line.specs.Location.{Rule, locationBy}
 use Rattle.color.specs.Stop.{Channel, Stop, Location}
 use Rattle.color.specs.Byte.{channels}
 use Rattle.color.specs.Accuracy.{Within, Accurate}
-use Rattle.picture.specs.Picture.{picture, buffer}
+use Rattle.picture.specs.Picture.{strip, buffer}
 use Rattle.rows.specs.Pixel.{pixelOf}
 
 -- the four bytes that stand at pixel (i, j) of a buffer, w pixels in a row
@@ -24,10 +24,15 @@ pub record PixelAccurate (rule : Rule) (stops : List Stop) (i j : ℕ) (byte : C
   pub exact-location : IsRoot (rule .scale) (rule .square i j) (locationBy rule i j)
   pub accurate : (t : Location) → Within (pos (locationBy rule i j)) t → Accurate stops (pos (locationBy rule i j)) t byte
 
--- A call whose answer should be `answer`, for a picture of w by h pixels in a buffer that held `before`, has answered r and left `after`.
--- Demand 1: "After a refusal every byte of the lent pixel buffer is zero, and on success so is every byte past the picture." Demand 2: the
--- pixels are those that the rules define.
-pub record Drawn (answer : ℕ) (rule : Rule) (stops : List Stop) (w h r : ℕ) (before after : List ℕ) : Type 0 where
+-- A call whose answer should be `answer`, for rows a up to, not including, b of a picture w pixels wide, in a buffer that held `before`, has
+-- answered r and left `after`. Demand 1: "After a refusal every byte of the lent pixel buffer is zero, and on success so is every byte past the
+-- picture." Demand 2: the pixels are those that the rules define. Row j of the picture is row j − a of the buffer.
+pub record DrawnRows (answer : ℕ) (rule : Rule) (stops : List Stop) (w a b r : ℕ) (before after : List ℕ) : Type 0 where
   pub reply : r ≡ answer
-  pub bytes-left : after ≡ buffer r (picture (pixelOf rule stops) w h) (length before)
-  pub pixels : r ≡ 0 → (i j : ℕ) → i < w → j < h → PixelAccurate rule stops i j (bytesAt after w i j)
+  pub bytes-left : after ≡ buffer r (strip (pixelOf rule stops) w a b) (length before)
+  pub pixels : r ≡ 0 → (i j : ℕ) → i < w → a ≤ j → j < b → PixelAccurate rule stops i j (bytesAt after w i (j - a))
+
+-- The same of a picture of w by h pixels. T-08: "The old whole-picture call stays and is the strip of all rows." That its pixels are those of the
+-- buffer, row by row, is the law `whole-pixels`.
+abbrev pub Drawn : ℕ → Rule → List Stop → ℕ → ℕ → ℕ → List ℕ → List ℕ → Type 0
+Drawn answer rule stops w h = DrawnRows answer rule stops w 0 h

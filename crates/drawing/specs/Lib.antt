@@ -1,3 +1,4 @@
 pub mod Replies
 pub mod Drawn
 pub mod Inner
+pub mod Strips

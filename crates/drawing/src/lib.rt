@@ -17,8 +17,8 @@ ghost use Rattle.placing.specs.Placed.{placedIn};
 ghost use Rattle.color.specs.Stop.{stopOf};
 ghost use Rattle.color.specs.Numbers.{Lendable};
 ghost use Rattle.rows.specs.Pixel.{Placed, Rows};
-ghost use Rattle.drawing.specs.Replies.{gradientReply, stopsReply};
-ghost use Rattle.drawing.specs.Drawn.{Drawn};
+ghost use Rattle.drawing.specs.Replies.{gradientRowsReply, gradientReply, stopsReply};
+ghost use Rattle.drawing.specs.Drawn.{DrawnRows, Drawn};
 ghost use Rattle.drawing.specs.Inner.{Painted};
 
 fn no_ramp() -> [u32; ramp::HEAD] {
@@ -47,14 +47,34 @@ pub fn draw_strip(g: Gradient, z: Strip, buf: &mut [u8])
     draw_placed(l, p, z, buf);
 }
 
-fn gradient_reply(g: Gradient, w: usize, h: usize, n: usize) -> u32
-    ensures { λ r. ⌜ r ≡ gradientReply g w h n ⌝ }
+fn gradient_reply(g: Gradient, w: usize, h: usize, a: usize, b: usize, n: usize) -> u32
+    ensures { λ r. ⌜ r ≡ gradientRowsReply g w h a b n ⌝ }
 {
-    let r = replies::room_reply(w, h, n);
+    let r = replies::strip_reply(w, h, a, b, n);
     if r != DONE {
         return r;
     }
     gradient::check(g)
+}
+
+// Draws rows a up to b of a gradient.
+pub fn draw_gradient_rows(
+    g: Gradient,
+    w: usize,
+    h: usize,
+    a: usize,
+    b: usize,
+    buf: &mut [u8],
+) -> u32
+    ensures { λ r. ⌜ DrawnRows (gradientRowsReply g w h a b (length (now (buf .entry)))) (ruleOf (g .shape) w h) (map stopOf (placedIn g w h)) w a b
+        r (now (buf .entry)) (now (buf .exit)) ⌝ }
+{
+    let r = gradient_reply(g, w, h, a, b, buf.len());
+    if r != DONE {
+        return replies::refuse(buf, r);
+    }
+    draw_strip(g, Strip { w, h, a, b }, buf);
+    DONE
 }
 
 // Draws a gradient.
@@ -62,12 +82,7 @@ pub fn draw_gradient(g: Gradient, w: usize, h: usize, buf: &mut [u8]) -> u32
     ensures { λ r. ⌜ Drawn (gradientReply g w h (length (now (buf .entry)))) (ruleOf (g .shape) w h) (map stopOf (placedIn g w h)) w h
         r (now (buf .entry)) (now (buf .exit)) ⌝ }
 {
-    let r = gradient_reply(g, w, h, buf.len());
-    if r != DONE {
-        return replies::refuse(buf, r);
-    }
-    draw_strip(g, Strip { w, h, a: 0, b: h }, buf);
-    DONE
+    draw_gradient_rows(g, w, h, 0, h, buf)
 }
 
 fn stops_reply(g: Gradient, p: PlacedStops, w: usize, h: usize, n: usize) -> u32

@@ -5,7 +5,7 @@ use mathlib.Core.Bool.{true}
 use mathlib.Core.List.{List}
 use Prim.Native.Nat.{ℕ, zero, suc}
 use lib.ListN.{length}
-use Rattle.replies.specs.Room.{boxIn, roomReply}
+use Rattle.replies.specs.Room.{boxIn, stripReply}
 use Rattle.gradient.specs.Check.{Accepted, checkOf}
 use Rattle.gradient.proofs.Laws.{accepted}
 use Rattle.line.specs.Box.{Box}
@@ -20,11 +20,11 @@ use Rattle.placing.specs.declared.Placing.{Placing}
 use Rattle.placing.specs.Placed.{placedIn}
 use Rattle.placing.specs.Reply.{handedOut, placeReply, placeOf}
 use Rattle.rows.specs.Pixel.{Rows}
-use Rattle.drawing.specs.Drawn.{Drawn}
+use Rattle.drawing.specs.Drawn.{DrawnRows}
 use Rattle.drawing.specs.Inner.{Painted}
-use Rattle.drawing.proofs.Accepted.{allRows, roomy}
+use Rattle.drawing.proofs.Accepted.{roomy}
 use Rattle.drawing.proofs.Accurate.{drawn}
-use Rattle.from_text.specs.Text.{placeTextReply, placeTextOf, drawTextReply, textRule, textStops}
+use Rattle.from_text.specs.Text.{placeTextReply, placeTextOf, drawRowsReply, textRule, textStops}
 
 none : (r : ℕ) (p : PlacedStops) → (r ≡ 0 → ⊥) → _≡_ {A = Placing} (record { reply = r; stops = noStops }) (record { reply = r; stops = handedOut r p })
 none zero p n = absurd (n refl)
@@ -46,17 +46,18 @@ module _ (text : List ℕ) (w h : ℕ) where
     placed-text b = rw (e, b, read-accepted text read-zero, read-zero)
 
     -- a gradient that was read can be drawn
-    pub drawable-text : (n : ℕ) → roomReply w h n ≡ 0 → Box w h × Accepted (reading .gradient) × Rows (allRows w h) n
-    drawable-text n room =
-        let k = roomy w h n room in
-        (k .box, accepted (reading .gradient) (ap (λ (x : Reading). checkOf (x .gradient)) e ∙ read-accepted text read-zero), k .all-rows)
+    pub drawable-text : (a b n : ℕ) → stripReply w h a b n ≡ 0
+        → Box w h × Accepted (reading .gradient) × Rows (record { w = w; h = h; a = a; b = b }) n
+    drawable-text a b n room =
+        let k = roomy w h a b n room in
+        (k .box, accepted (reading .gradient) (ap (λ (x : Reading). checkOf (x .gradient)) e ∙ read-accepted text read-zero), k .rows)
 
     -- and what is painted of it is drawn of the text
-    pub drawn-text : (before after : List ℕ) → roomReply w h (length before) ≡ 0
-        → Painted (ruleOf (reading .gradient .shape) w h) (placedIn (reading .gradient) w h) w 0 h before after
-        → Drawn (drawTextReply text w h (length before)) (textRule text w h) (textStops text w h) w h 0 before after
-    drawn-text before after room d =
-        let k = subst (λ (x : Reading). Painted (ruleOf (x .gradient .shape) w h) (placedIn (x .gradient) w h) w 0 h before after) e d in
-        let zero : drawTextReply text w h (length before) ≡ 0 = rw (room, read-zero) in
-        drawn (drawTextReply text w h (length before)) (textRule text w h) w h before after (placedIn (readOf text .gradient) w h)
-        (bounds .some-scale (readOf text .gradient .shape) w h (roomy w h (length before) room .box)) zero k
+    pub drawn-text : (a b : ℕ) (before after : List ℕ) → stripReply w h a b (length before) ≡ 0
+        → Painted (ruleOf (reading .gradient .shape) w h) (placedIn (reading .gradient) w h) w a b before after
+        → DrawnRows (drawRowsReply text w h a b (length before)) (textRule text w h) (textStops text w h) w a b 0 before after
+    drawn-text a b before after room d =
+        let k = subst (λ (x : Reading). Painted (ruleOf (x .gradient .shape) w h) (placedIn (x .gradient) w h) w a b before after) e d in
+        let zero : drawRowsReply text w h a b (length before) ≡ 0 = rw (room, read-zero) in
+        drawn (drawRowsReply text w h a b (length before)) (textRule text w h) w a b before after (placedIn (readOf text .gradient) w h)
+        (bounds .some-scale (readOf text .gradient .shape) w h (roomy w h a b (length before) room .box)) zero k

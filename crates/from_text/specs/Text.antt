@@ -1,9 +1,9 @@
--- The replies and the stops of a text in a box of w by h pixels: first the box and the buffer are judged, then the text.
+-- The replies and the stops of a text in a box of w by h pixels: first the box, the rows and the buffer are judged, then the text.
 -- Assumes nothing.
 use mathlib.Core.List.{List, map}
 use Prim.Native.Nat.{ℕ}
 use Rattle.replies.specs.Replies.{_orElse_}
-use Rattle.replies.specs.Room.{boxReply, roomReply}
+use Rattle.replies.specs.Room.{boxReply, stripReply, roomReply}
 use Rattle.line.specs.Line.{ruleOf}
 use Rattle.line.specs.Location.{Rule}
 use Rattle.reader.specs.Reading.{readOf}
@@ -23,7 +23,10 @@ placeTextOf text w h = record {
   stops = handedOut (placeTextReply text w h) (listed (placedIn (readOf text .gradient) w h));
 }
 
--- drawing
+-- drawing rows a up to b, and all of them
+abbrev pub drawRowsReply : List ℕ → ℕ → ℕ → ℕ → ℕ → ℕ → ℕ
+drawRowsReply text w h a b n = stripReply w h a b n orElse readOf text .reply
+
 abbrev pub drawTextReply : List ℕ → ℕ → ℕ → ℕ → ℕ
 drawTextReply text w h n = roomReply w h n orElse readOf text .reply
 

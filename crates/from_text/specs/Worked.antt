@@ -8,7 +8,7 @@ use Prim.Native.Nat.{ℕ, _*_}
 use lib.IntN.{ℤ, pos, negsuc}
 use lib.ListN.{getD}
 use Rattle.replies.specs.Replies.{done}
-use Rattle.replies.specs.Room.{boxIn, roomFor, roomReply}
+use Rattle.replies.specs.Room.{boxIn, rowsIn, stripReply}
 use Rattle.numbers.specs.Floor.{floorDiv}
 use Rattle.numbers.specs.Units.{toUnit, lengthUnits, percentageUnits}
 use Rattle.root.specs.Root.{rootIn, rootOf}
@@ -92,5 +92,5 @@ cases =
     ∷ []
 
 pub p1-p10 : map (λ c. c .given) cases ≡ map (λ c. c .stated) cases
-unfolding floorDiv toUnit rootIn rootOf shapeIn radiusOf line.lengthOf line.ruleOf locationBy norm lineLength along vectorOf peekOf restOf text.run past isSpace gapOf lower keywordOf wholeOf colorNames rowOf namedOf colorOf isDigit decimal isNegative afterSign thousandths fractionOf magnitudeOf unitOf numberOf horizontalOf verticalOf horizontalFirst verticalFirst toOf angleOf directionOf extentOf sizeOf circleFirst sizeFirst circleOf atOf radialOf circle.lengthOf coordinateOf partOf secondOf position.positionOf itemsOf twoStopsOf stops.stopPositionOf stops.stopOf stops.stopsOf withStops linearOf circularOf closesOf bodyOf kindOf functionOf readReply readOf boxIn roomFor roomReply placeTextReply firstAt lastAt raisedFrom next spacedFrom fixup.run atPositions placedStops placedIn premultiplied lastPlace around mixed joined row strip
+unfolding floorDiv toUnit rootIn rootOf shapeIn radiusOf line.lengthOf line.ruleOf locationBy norm lineLength along vectorOf peekOf restOf text.run past isSpace gapOf lower keywordOf wholeOf colorNames rowOf namedOf colorOf isDigit decimal isNegative afterSign thousandths fractionOf magnitudeOf unitOf numberOf horizontalOf verticalOf horizontalFirst verticalFirst toOf angleOf directionOf extentOf sizeOf circleFirst sizeFirst circleOf atOf radialOf circle.lengthOf coordinateOf partOf secondOf position.positionOf itemsOf twoStopsOf stops.stopPositionOf stops.stopOf stops.stopsOf withStops linearOf circularOf closesOf bodyOf kindOf functionOf readReply readOf boxIn rowsIn stripReply placeTextReply firstAt lastAt raisedFrom next spacedFrom fixup.run atPositions placedStops placedIn premultiplied lastPlace around mixed joined row strip
 p1-p10 = refl

@@ -197,11 +197,12 @@ padded-at n s k = go s (n - length s) k
     go (a ∷ s) m zero = refl
     go (a ∷ s) m (suc k) = go s m k
 
--- byte c of pixel (i, j) stands at 4 (j w + i) + c of the buffer after a call that answers 0
-pub buffer-at : (px : ℕ → ℕ → List ℕ) → ((i j : ℕ) → length (px i j) ≡ 4) → (w h r n i j c : ℕ) → r ≡ 0 → i < w → j < h → c < 4
-    → getD (buffer r (picture px w h) n) (4 * (j * w + i) + c) 0 ≡ getD (px i j) c 0
-buffer-at px four w h r n i j c e hi hj hc =
-    rw e (padded-at n (picture px w h) (4 * (j * w + i) + c) ∙ picture-at px four w h i j c 0 hi hj hc)
+-- byte c of pixel (i, j) stands at 4 ((j − a) w + i) + c of the buffer after a call for rows a up to b that answers 0
+pub buffer-at : (px : ℕ → ℕ → List ℕ) → ((i j : ℕ) → length (px i j) ≡ 4) → (w a b r n i j c : ℕ) → r ≡ 0 → i < w → a ≤ j → j < b → c < 4
+    → getD (buffer r (strip px w a b) n) (4 * ((j - a) * w + i) + c) 0 ≡ getD (px i j) c 0
+buffer-at px four w a b r n i j c e hi ha hb hc =
+    let s : a + (j - a) ≡ j = omega arith in
+    rw e (padded-at n (strip px w a b) (4 * ((j - a) * w + i) + c) ∙ rw s at (strip-at px four w a b i (j - a) c 0 hi (omega arith) hc))
 
 -- ---- room: rows a up to j of n bytes each, and one more
 pub times-more : (n a j : ℕ) → a ≤ j → n * (j + 1 - a) ≡ n * (j - a) + n

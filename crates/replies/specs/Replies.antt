@@ -31,6 +31,10 @@ outOfRange = 5
 abbrev pub tooManyStops : ℕ
 tooManyStops = 6
 
+-- T-08: "8 when a is not below b or b is above the height; it comes after 1"
+abbrev pub badRows : ℕ
+badRows = 8
+
 -- a row of the table: its number where it applies, else none
 abbrev pub given : Bool → ℕ → ℕ
 given applies number = cond applies number done

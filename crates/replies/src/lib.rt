@@ -1,8 +1,8 @@
-// The reply numbers and their order, and what every call judges first: a box, and the length of a lent slice.
+// The reply numbers and their order, and what every call judges first: a box, the rows of a strip, and the length of a lent slice.
 ghost use mathlib.Core.Path.{_≡_};
 ghost use lib.ListN.{length, replicate};
 ghost use Rattle.replies.specs.Replies.{lowest};
-ghost use Rattle.replies.specs.Room.{boxIn, boxReply, sizeReply, roomFor, roomReply};
+ghost use Rattle.replies.specs.Room.{boxIn, boxReply, rowsIn, rowsReply, sizeReply, roomFor, stripReply, roomReply};
 
 // None of the rows below applies.
 pub const DONE: u32 = 0;
@@ -25,6 +25,9 @@ pub const OUT_OF_RANGE: u32 = 5;
 // More than 16 stops.
 pub const TOO_MANY_STOPS: u32 = 6;
 
+// Rows of a strip that are none, or that end below the box. It is given after 1 and before 2.
+pub const BAD_ROWS: u32 = 8;
+
 // The greatest width and height of a box.
 const SIDE_MAX: usize = 2048;
 
@@ -40,6 +43,24 @@ pub fn box_reply(w: usize, h: usize) -> u32
     ensures { λ r. ⌜ r ≡ boxReply w h ⌝ }
 {
     if box_in(w, h) { DONE } else { BAD_BOX }
+}
+
+// Whether rows `first` up to `end` are one or more, and within a height of h.
+pub fn rows_in(h: usize, first: usize, end: usize) -> bool
+    ensures { λ r. ⌜ r ≡ rowsIn h first end ⌝ }
+{
+    first < end && end <= h
+}
+
+// The reply to the rows of a strip.
+pub fn rows_reply(h: usize, first: usize, end: usize) -> u32
+    ensures { λ r. ⌜ r ≡ rowsReply h first end ⌝ }
+{
+    if rows_in(h, first, end) {
+        DONE
+    } else {
+        BAD_ROWS
+    }
 }
 
 // The reply to a lent slice of n bytes for an answer of `size` bytes.
@@ -60,15 +81,26 @@ pub fn room_for(w: usize, h: usize, size: usize, n: usize) -> u32
     size_reply(size, n)
 }
 
-// The reply to a box and to a buffer of n bytes.
+// The reply to a box, to rows `first` up to `end` of it, and to a buffer of n bytes for them.
+pub fn strip_reply(w: usize, h: usize, first: usize, end: usize, n: usize) -> u32
+    ensures { λ r. ⌜ r ≡ stripReply w h first end n ⌝ }
+{
+    let of_box = box_reply(w, h);
+    if of_box != DONE {
+        return of_box;
+    }
+    let of_rows = rows_reply(h, first, end);
+    if of_rows != DONE {
+        return of_rows;
+    }
+    size_reply(4 * w * (end - first), n)
+}
+
+// The reply to a box and to a buffer of n bytes for all its rows.
 pub fn room_reply(w: usize, h: usize, n: usize) -> u32
     ensures { λ r. ⌜ r ≡ roomReply w h n ⌝ }
 {
-    let first = box_reply(w, h);
-    if first != DONE {
-        return first;
-    }
-    size_reply(4 * w * h, n)
+    strip_reply(w, h, 0, h, n)
 }
 
 // The lower of two replies that apply.

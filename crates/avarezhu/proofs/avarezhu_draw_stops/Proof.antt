@@ -20,7 +20,7 @@ same-length c = search needs
 returns : tie.Need-returns
 returns c =
     let e = c .before .before .refuse .ensures in
-    not-drawn _ _ _ _ _ _ _ (c .before .before .refuse .result) (e .0 ∙ orElse-first _ (c .before .before .before .before .before .room-reply .ensures) (c .before .before .before .before .if1 .taken)) (λ z. c .before .before .before .before .if1 .taken (sym (e .0) ∙ z)) (e .1)
+    not-drawn _ _ _ _ _ _ _ _ (c .before .before .refuse .result) (e .0 ∙ orElse-first _ (c .before .before .before .before .before .room-reply .ensures) (c .before .before .before .before .if1 .taken)) (λ z. c .before .before .before .before .if1 .taken (sym (e .0) ∙ z)) (e .1)
 
 take-requires : tie.Need-take-requires
 take-requires c κs = search needs
@@ -42,7 +42,7 @@ returns-2 c =
     let e = c .before .before .refuse2 .ensures in
     let zero = sym (c .before .before .before .before .before .before .before .before .before .room-reply .ensures) ∙ c .before .before .before .before .before .before .before .before .if1 .left in
     let judged = c .before .before .before .before .before .lower .ensures ∙ ap₂ lowest (gradient-reply _ _ (c .before .before .before .before .before .before .before .take .ensures)) (list-reply _ _ (c .before .before .before .before .before .before .take2 .ensures)) in
-    not-drawn _ _ _ _ _ _ _ (c .before .before .refuse2 .result) (e .0 ∙ orElse-next zero judged) (λ z. c .before .before .before .before .if2 .taken (sym (e .0) ∙ z)) (e .1)
+    not-drawn _ _ _ _ _ _ _ _ (c .before .before .refuse2 .result) (e .0 ∙ orElse-next zero judged) (λ z. c .before .before .before .before .if2 .taken (sym (e .0) ∙ z)) (e .1)
 
 draw-stops-requires : tie.Need-draw-stops-requires
 draw-stops-requires c κs = search needs
