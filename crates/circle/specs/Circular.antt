@@ -2,14 +2,15 @@
 -- Assumes nothing.
 use mathlib.Core.Path.{_≡_}
 use mathlib.Core.List.{List}
-use Prim.Native.Nat.{ℕ, _+_, _%_}
+use Prim.Native.Nat.{ℕ, _+_, _*_, _%_, _≤_}
+use lib.ListN.{length}
 use Rattle.line.specs.Box.{Box}
 use Rattle.line.specs.Represented.{Near}
 use Rattle.line.specs.declared.BiasedCenter.{BiasedCenter}
 use Rattle.ramp.specs.Ramp.{Ramp}
 use Rattle.rows.specs.Pixel.{Rows}
 use Rattle.rows.specs.declared.Strip.{Strip}
-use Rattle.circleroots.specs.Squares.{Known}
+use Rattle.circleroots.specs.Squares.{squareOf, Known}
 use Rattle.circleroots.specs.declared.RowsKnown.{RowsKnown}
 use Rattle.circleroots.specs.declared.RowsKnown.the-variants as R
 
@@ -24,6 +25,18 @@ pub record Circular (c : BiasedCenter) (z : Strip) (n : ℕ) : Type 0 where
   pub near : Near c
   pub box : Box (z .w) (z .h)
   pub strip : Rows z n
+
+-- of w columns, those from the n-th on are as far from the center's coordinate c as their mirror images, which are before the n-th
+pub record Halved (c w n : ℕ) : Type 0 where
+  pub some : 1 ≤ n
+  pub within : n ≤ w
+  pub half : w ≤ 2 * n
+  pub same : (i k : ℕ) → n ≤ i → i + k + 1 ≡ w → squareOf c i ≡ squareOf c k
+
+-- of w pixels of row j, four bytes each, those from the n-th on are their mirror images
+pub record Symmetric (px : ℕ → ℕ → List ℕ) (w n j : ℕ) : Type 0 where
+  pub four : (i j : ℕ) → length (px i j) ≡ 4
+  pub same : (i k : ℕ) → n ≤ i → i + k + 1 ≡ w → px i j ≡ px k j
 
 -- the locations of row j stand in p where j is even, else in q
 pub record InTurn (c : BiasedCenter) (w j : ℕ) (p q : List ℕ) : Type 0 where

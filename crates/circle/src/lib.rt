@@ -5,6 +5,7 @@ use line::BiasedCenter;
 use line::Line;
 use rows::Strip;
 ghost use mathlib.Core.Path.{_≡_};
+ghost use mathlib.Core.List.{List};
 ghost use Prim.Native.Nat.{ℕ, _+_, _*_, _≤_, _<_};
 ghost use lib.ListN.{length, getD};
 ghost use Rattle.line.specs.Box.{Box};
@@ -14,7 +15,7 @@ ghost use Rattle.picture.specs.Picture.{row, patched};
 ghost use Rattle.ramp.specs.Ramp.{Entries, Ramp};
 ghost use Rattle.rows.specs.Pixel.{Rows, pixelBy, rampPixel, stripOf};
 ghost use Rattle.circleroots.specs.Squares.{Measured, LowHalves, Known, KnownAbove, InTable};
-ghost use Rattle.circle.specs.Circular.{Prepared, Circular, AboveInTurn, oneMore};
+ghost use Rattle.circle.specs.Circular.{Prepared, Circular, AboveInTurn, oneMore, Halved, Symmetric};
 
 // The location of pixel (i, j). The guess and the locations of the two pixels before change only how long it takes.
 fn locate(
@@ -142,7 +143,37 @@ fn one_more(known: RowsKnown) -> RowsKnown
     }
 }
 
-// Draws a strip from the buffer's start. A row that is as far from the center as one above it is copied from there.
+// How many columns of a strip are drawn by themselves: where the center is in the middle of them the left half, as the right half is its mirror image.
+// Where the center is in the middle of the rows, too, half of these are copies already, and all columns are drawn.
+fn own_columns(c: BiasedCenter, z: Strip) -> usize
+    requires { ⌜ Box (z .w) (z .h) × (z .b ≤ z .h) × (z .a < z .b) ⌝ }
+    ensures { λ n. ⌜ Halved (c .x) (z .w) n ⌝ }
+{
+    let w = z.w;
+    if c.x != numbers::BIAS + 32 * (w as u32) {
+        return w;
+    }
+    if c.y == numbers::BIAS + 32 * ((z.a + z.b) as u32) {
+        return w;
+    }
+    (w + 1) / 2
+}
+
+// Stores the pixels from the n-th on of a row of w pixels that stands from `at` on: each is its mirror image.
+fn mirror(buf: &mut [u8], at: usize, w: usize, n: usize)
+    requires { ⌜ (w ≤ 2 * n) × (n ≤ w) × (at + 4 * w ≤ length (now buf)) ⌝ }
+    ensures { λ _. ⌜ ((px : ℕ → ℕ → List ℕ) (j : ℕ) (d : List ℕ) → Symmetric px w n j → now (buf .entry) ≡ patched d at (row px n j)
+        → at + 4 * w ≤ length d → now (buf .exit) ≡ patched d at (row px w j)) ⌝ }
+{
+    let mut i = n;
+    while i < w {
+        picture::copy_row(buf, at + 4 * (w - 1 - i), at + 4 * i, 4);
+        i += 1;
+    }
+}
+
+// Draws a strip from the buffer's start. A row that is as far from the center as one above it is copied from there; of any other the first n pixels are
+// drawn, and the rest are their mirror images.
 fn draw_rows(
     ramp: &[u32],
     low: &[u32],
@@ -150,27 +181,30 @@ fn draw_rows(
     q: &mut [u32],
     c: BiasedCenter,
     z: Strip,
+    n: usize,
     buf: &mut [u8],
 )
-    requires { ⌜ Prepared (now ramp) c (z .w) (z .h) × LowHalves (c .x) (z .w) (now low) × (z .w ≤ length (now p)) × (z .w ≤ length (now q)) × Rows z (length (now buf)) ⌝ }
+    requires { ⌜ Prepared (now ramp) c (z .w) (z .h) × Halved (c .x) (z .w) n × LowHalves (c .x) n (now low) × (z .w ≤ length (now p)) × (z .w ≤ length (now q)) × Rows z (length (now buf)) ⌝ }
     ensures { λ _. ⌜ now (buf .exit) ≡ patched (now (buf .entry)) 0 (stripOf (now (ramp .entry)) (Line.Circle c) z) ⌝ }
 {
     let a = z.a;
     let b = z.b;
-    let n = 4 * z.w;
+    let bytes = 4 * z.w;
+    let part = Strip { w: n, h: z.h, a, b };
     let mut j = a;
     let mut o = 0;
     let mut known = RowsKnown::None;
     while j < b {
         let m = circleroots::mirrored(c.y, a, j);
         if m < j {
-            picture::copy_row(buf, n * (m - a), o, n);
+            picture::copy_row(buf, bytes * (m - a), o, bytes);
             known = RowsKnown::None;
         } else {
-            draw_turn(ramp, low, p, q, known, c, z, j, o, buf);
+            draw_turn(ramp, low, p, q, known, c, part, j, o, buf);
+            mirror(buf, o, z.w, n);
             known = one_more(known);
         }
-        o += n;
+        o += bytes;
         j += 1;
     }
 }
@@ -188,8 +222,9 @@ pub fn draw(
     requires { ⌜ Ramp (now ramp) × Circular c z (length (now buf)) × (z .w ≤ length (now low)) × (z .w ≤ length (now p)) × (z .w ≤ length (now q)) ⌝ }
     ensures { λ _. ⌜ now (buf .exit) ≡ patched (now (buf .entry)) 0 (stripOf (now (ramp .entry)) (Line.Circle c) z) ⌝ }
 {
-    circleroots::fill_low(low, z.w, c);
-    draw_rows(ramp, low, p, q, c, z, buf);
+    let n = own_columns(c, z);
+    circleroots::fill_low(low, n, c);
+    draw_rows(ramp, low, p, q, c, z, n, buf);
 }
 
 // Of columns or rows a up to b, one of the farthest from the center's coordinate: the first or the last.
