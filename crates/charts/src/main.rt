@@ -148,7 +148,7 @@ fn draw_refused() {
 // Of two reasons to refuse, the first in the order 1, 8, 2, 3 to 6 is given.
 fn draw_refused_rows() {
     let text = b"linear-gradient(red, blue)";
-    let slip = b"linear-gradient(red, blue";
+    let unclosed = b"linear-gradient(red, blue";
     draw_rows(text, 2, 2, 1, 1, 8);
     draw_rows(text, 2, 2, 1, 3, 16);
     draw_rows(text, 2, 2, 18446744073709551615, 1, 8);
@@ -156,9 +156,9 @@ fn draw_refused_rows() {
     draw_rows(text, 2, 2, 1, 2, 7);
     draw_rows(text, 0, 2, 1, 1, 8);
     draw_rows(text, 2, 2, 1, 1, 0);
-    draw_rows(slip, 2, 2, 1, 1, 8);
-    draw_rows(slip, 2, 2, 1, 2, 7);
-    draw_rows(slip, 2, 2, 1, 2, 9);
+    draw_rows(unclosed, 2, 2, 1, 1, 8);
+    draw_rows(unclosed, 2, 2, 1, 2, 7);
+    draw_rows(unclosed, 2, 2, 1, 2, 9);
 }
 
 fn main() {

@@ -11,7 +11,8 @@ use Rattle.stops.specs.Bytes.{AllBytes}
 use Rattle.stops.specs.declared.PlacedStop.{PlacedStop}
 use Rattle.color.specs.Stop.{stopOf}
 use Rattle.color.specs.Lent.{Lent, stopsOf}
-use Rattle.table.specs.Table.{entryOf}
+use Rattle.table.specs.Table.{entryOf, Stretched}
+use Rattle.table.specs.declared.Stretch.{Stretch}
 
 -- the words of the head, and the stops that it has room for
 abbrev pub headSize : ℕ
@@ -63,6 +64,10 @@ pub record Made (l : List PlacedStop) (r : List ℕ) : Type 0 where
   pub stops : Stops r
   pub same : stopsOf (positionsIn r) (valuesIn r) ≡ map stopOf l
   pub bytes : AllBytes l
+
+-- the stretch t is one of the ramp's
+abbrev pub Held : List ℕ → Stretch → Type 0
+Held r t = Stretched (positionsIn r) (valuesIn r) t
 
 -- r is a ramp of the same colors as q
 pub record Like (q r : List ℕ) : Type 0 where

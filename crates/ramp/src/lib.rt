@@ -1,6 +1,7 @@
 // A ramp: the color of every location, in one lent slice of words. Its head holds the stops: their number, the first location of the table, room for 16
 // positions and for 64 values. The rest is the table, one packed color for each unit; it may be empty. Only this crate knows the order of the words.
 use stops::PlacedStops;
+use table::Stretch;
 ghost use mathlib.Core.Path.{_≡_};
 ghost use Prim.Native.Nat.{_+_, _-_, _*_, _≤_, _<_};
 ghost use lib.ListN.{length, getD, take, set};
@@ -9,7 +10,7 @@ ghost use Rattle.stops.specs.Check.{placedOf};
 ghost use Rattle.color.specs.Numbers.{Lendable};
 ghost use Rattle.table.specs.Table.{locationLimit};
 ghost use Rattle.walk.specs.Walk.{mostSteps};
-ghost use Rattle.ramp.specs.Ramp.{mostStops, headSize, positionsIn, valuesIn, tableIn, baseIn, colorIn, Spread, Stops, Ramp, Made, Like};
+ghost use Rattle.ramp.specs.Ramp.{mostStops, headSize, positionsIn, valuesIn, tableIn, baseIn, colorIn, Spread, Stops, Ramp, Made, Like, Held};
 ghost use Rattle.picture.specs.Picture.{patched};
 
 // The word that is the number of stops.
@@ -89,6 +90,14 @@ pub fn color(ramp: &[u32], s: u64) -> u32
         return t[k];
     }
     color_by_stops(ramp, s)
+}
+
+// The stretch of locations that s is in, or one of no locations.
+pub fn stretch_at(ramp: &[u32], s: u64) -> Stretch
+    requires { ⌜ Stops (now ramp) ⌝ }
+    ensures { λ t. ⌜ Held (now (ramp .entry)) t ⌝ }
+{
+    table::stretch_at(positions(ramp), values(ramp), s)
 }
 
 // ---- making a ramp

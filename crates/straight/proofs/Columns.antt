@@ -23,6 +23,14 @@ four-at d o (suc (suc zero)) h = refl
 four-at d o (suc (suc (suc zero))) h = refl
 four-at d o (suc (suc (suc (suc c)))) h = absurd (omega arith)
 
+-- the same of other pixels, if they are alike
+pub begun-alike : (px qx : ℕ → ℕ → List ℕ) → ((i j : ℕ) → px i j ≡ qx i j) → (w a b i : ℕ) (d : List ℕ) (at : ℕ) (c : List ℕ) → Begun px w a b i d at c → Begun qx w a b i d at c
+unfolding upTo
+begun-alike px qx e w a b i d at c h = h ∙ ap (patched d at) (strips-alike (upTo px i d at w a) (upTo qx i d at w a) w a b (λ k j l m n. same k j))
+  where
+    same : (k j : ℕ) → upTo px i d at w a k j ≡ upTo qx i d at w a k j
+    same k j = ap (λ (x : List ℕ). cond (ltb k i) x (standing d at w a k j)) (e k j)
+
 -- a row in three parts
 cut : (q : ℕ → ℕ → List ℕ) (i n r j : ℕ) → row q (i + n + r) j ≡ part q 0 i j ++ part q i n j ++ part q (i + n) r j
 cut q i n r j =
@@ -115,3 +123,6 @@ module _ (px : ℕ → ℕ → List ℕ) (each : (i j : ℕ) → length (px i j)
   -- all is drawn
   pub columns-all : (b : ℕ) → strip (upTo px w d at w a) w a b ≡ strip px w a b
   columns-all b = strips-alike (upTo px w d at w a) px w a b (λ i j h k l. drawn w i j h)
+
+  pub columns-drawn : (b : ℕ) (c : List ℕ) → at + 4 * w * (b - a) ≤ length d → 0 < w → (Begun px w a b 0 d at d → Begun px w a b w d at c) → c ≡ patched d at (strip px w a b)
+  columns-drawn b c room some f = f (columns-none b room some) ∙ ap (patched d at) (columns-all b)

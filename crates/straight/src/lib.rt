@@ -1,10 +1,11 @@
 // Strips of a picture along a straight line: the same bytes as `rows` draws, faster. Locations are found in fixed point and colors in the ramp's table, tile
-// by tile. A row that is an earlier row moved sideways is copied from it.
+// by tile, or from walks where there is no table. A row that is an earlier row moved sideways is copied from it.
 use fixed::RowLine;
 use fixed::Steps;
 use line::Line;
 use line::SignedVector;
 use rows::Strip;
+use table::Stretch;
 ghost use mathlib.Core.Path.{_≡_};
 ghost use mathlib.Core.Bool.{true, false, Bool·beq};
 ghost use mathlib.Core.List.{List};
@@ -52,6 +53,71 @@ fn draw_by_locations(
         words::put_word(buf, o, c);
         o += 4;
         k += 1;
+    }
+}
+
+// How many pixels to draw location by location before those of a stretch: a part where it has no locations.
+fn pixels_before(t: Stretch, n: usize) -> usize
+    requires { ⌜ 0 < n ⌝ }
+    ensures { λ r. ⌜ (0 < r) × (r ≤ n) ⌝ }
+{
+    if t.count == 0 {
+        picture::at_most(TILE_COLUMNS, n)
+    } else {
+        1
+    }
+}
+
+// Draws pixels up to the end of a stretch: the first location by location, the others by the walks of the stretch. Says how many.
+fn draw_stretch(
+    ramp: &[u32],
+    r: RowLine,
+    v: SignedVector,
+    z: Strip,
+    j: usize,
+    i: usize,
+    n: usize,
+    at: usize,
+    buf: &mut [u8],
+) -> usize
+    requires { ⌜ Ramp (now ramp) × AlongRow r v (z .w) (z .h) j × (0 < n) × (i + n ≤ z .w) × (at + 4 * n ≤ length (now buf)) ⌝ }
+    ensures { λ m. ⌜ (0 < m) × (m ≤ n) × (now (buf .exit) ≡ patched (now (buf .entry)) at (part (rampPixel (now (ramp .entry)) (Line.Straight v) (z .w) (z .h)) i m j)) ⌝ }
+{
+    let t = ramp::stretch_at(ramp, fixed::location(r, v, z.w, z.h, i, j));
+    let m = pixels_before(t, n);
+    draw_by_locations(ramp, r, v, z, j, i, m, at, buf);
+    let mut k = m;
+    let mut o = at + 4 * m;
+    while k < n {
+        let q = fixed::location(r, v, z.w, z.h, i + k, j);
+        if !table::is_in(t, q) {
+            return k;
+        }
+        words::put_word(buf, o, table::color_in(t, q));
+        o += 4;
+        k += 1;
+    }
+    k
+}
+
+// Draws a stretch at a time.
+fn draw_by_stretches(
+    ramp: &[u32],
+    r: RowLine,
+    v: SignedVector,
+    z: Strip,
+    j: usize,
+    i: usize,
+    n: usize,
+    at: usize,
+    buf: &mut [u8],
+)
+    requires { ⌜ Ramp (now ramp) × AlongRow r v (z .w) (z .h) j × (i + n ≤ z .w) × (at + 4 * n ≤ length (now buf)) ⌝ }
+    ensures { λ _. ⌜ now (buf .exit) ≡ patched (now (buf .entry)) at (part (rampPixel (now (ramp .entry)) (Line.Straight v) (z .w) (z .h)) i n j) ⌝ }
+{
+    let mut k = 0;
+    while k < n {
+        k += draw_stretch(ramp, r, v, z, j, i + k, n - k, at + 4 * k, buf);
     }
 }
 
@@ -128,14 +194,24 @@ fn draw_columns(
     }
 }
 
-// Draws a strip from `at` on, a tile's columns at a time.
-fn draw_band(ramp: &[u32], steps: Steps, v: SignedVector, z: Strip, at: usize, buf: &mut [u8])
-    requires { ⌜ Ramp (now ramp) × Box (z .w) (z .h) × Steady steps v × (z .a ≤ z .b) × (z .b ≤ z .h) × (at + 4 * z .w * (z .b - z .a) ≤ length (now buf)) ⌝ }
-    ensures { λ _. ⌜ now (buf .exit) ≡ patched (now (buf .entry)) at (stripOf (now (ramp .entry)) (Line.Straight v) z) ⌝ }
+// Draws the columns from `from` up to `end` of a strip whose rows start at `at`, a tile's columns at a time.
+pub fn draw_band(
+    ramp: &[u32],
+    steps: Steps,
+    v: SignedVector,
+    z: Strip,
+    from: usize,
+    end: usize,
+    at: usize,
+    buf: &mut [u8],
+)
+    requires { ⌜ Ramp (now ramp) × Box (z .w) (z .h) × Steady steps v × (z .a ≤ z .b) × (z .b ≤ z .h) × (at + 4 * z .w * (z .b - z .a) ≤ length (now buf)) × (from ≤ end) × (end ≤ z .w) ⌝ }
+    ensures { λ _. ⌜ ((d : List ℕ) → length d ≡ length (now (buf .entry)) → Begun (rampPixel (now (ramp .entry)) (Line.Straight v) (z .w) (z .h)) (z .w) (z .a) (z .b) from d at (now (buf .entry))
+        → Begun (rampPixel (now (ramp .entry)) (Line.Straight v) (z .w) (z .h)) (z .w) (z .a) (z .b) end d at (now (buf .exit))) ⌝ }
 {
-    let mut i = 0;
-    while i < z.w {
-        let n = picture::at_most(TILE_COLUMNS, z.w - i);
+    let mut i = from;
+    while i < end {
+        let n = picture::at_most(TILE_COLUMNS, end - i);
         draw_columns(ramp, steps, v, z, i, n, at, buf);
         i += n;
     }
@@ -157,9 +233,37 @@ fn draw_tiles(ramp: &[u32], steps: Steps, v: SignedVector, z: Strip, buf: &mut [
             a: j,
             b: end,
         };
-        draw_band(ramp, steps, v, band, o, buf);
+        draw_band(ramp, steps, v, band, 0, z.w, o, buf);
         o += 4 * z.w * n;
         j = end;
+    }
+}
+
+// Draws a strip from the buffer's start without a table, row by row.
+fn draw_rows(ramp: &[u32], steps: Steps, v: SignedVector, z: Strip, buf: &mut [u8])
+    requires { ⌜ Ramp (now ramp) × Box (z .w) (z .h) × Steady steps v × Rows z (length (now buf)) ⌝ }
+    ensures { λ _. ⌜ now (buf .exit) ≡ patched (now (buf .entry)) 0 (stripOf (now (ramp .entry)) (Line.Straight v) z) ⌝ }
+{
+    let m = 4 * z.w;
+    let mut j = z.a;
+    let mut o = 0;
+    while j < z.b {
+        let r = fixed::row_line(steps, v, z.w, z.h, j);
+        draw_by_stretches(ramp, r, v, z, j, 0, z.w, o, buf);
+        o += m;
+        j += 1;
+    }
+}
+
+// In tiles where there is a table, else row by row.
+fn draw_new(ramp: &[u32], steps: Steps, v: SignedVector, z: Strip, buf: &mut [u8])
+    requires { ⌜ Ramp (now ramp) × Box (z .w) (z .h) × Steady steps v × Rows z (length (now buf)) ⌝ }
+    ensures { λ _. ⌜ now (buf .exit) ≡ patched (now (buf .entry)) 0 (stripOf (now (ramp .entry)) (Line.Straight v) z) ⌝ }
+{
+    if ramp::table_of(ramp).len() == 0 {
+        draw_rows(ramp, steps, v, z, buf);
+    } else {
+        draw_tiles(ramp, steps, v, z, buf);
     }
 }
 
@@ -211,7 +315,7 @@ fn new_pixels(s: Shift, w: usize, n: usize) -> usize
     s.rows * w + (n - s.rows) * s.columns
 }
 
-// Whether a shift is one along v that leaves at most a sixteenth of the pixels in n rows of w to draw.
+// Whether a shift is one along v that leaves at most half of the pixels in n rows of w to draw.
 fn is_worthwhile(v: SignedVector, s: Shift, w: usize, n: usize) -> bool
     requires { ⌜ Bounded v × (w ≤ 2048) × (n ≤ 2048) ⌝ }
     ensures { λ r. ⌜ (r ≡ true → Copies v s w n) ⌝ }
@@ -228,7 +332,7 @@ fn is_worthwhile(v: SignedVector, s: Shift, w: usize, n: usize) -> bool
     if (v.x as usize) * s.columns != (v.y as usize) * s.rows {
         return false;
     }
-    16 * new_pixels(s, w, n) <= n * w
+    2 * new_pixels(s, w, n) <= n * w
 }
 
 // Draws row j at `at`: the earlier row, which is at `from`, without its first pixels, and then new ones.
@@ -322,7 +426,7 @@ fn draw_with_copies(ramp: &[u32], steps: Steps, v: SignedVector, s: Shift, z: St
         a: z.a,
         b: z.a + s.rows,
     };
-    draw_tiles(ramp, steps, v, head, buf);
+    draw_new(ramp, steps, v, head, buf);
     draw_shifted(ramp, v, steps, s, z, buf);
 }
 
@@ -337,43 +441,43 @@ pub fn draw(ramp: &[u32], v: SignedVector, s: Shift, z: Strip, buf: &mut [u8])
     if is_worthwhile(v, s, z.w, z.b - z.a) {
         draw_with_copies(ramp, steps, v, s, z, buf);
     } else {
-        draw_tiles(ramp, steps, v, z, buf);
+        draw_new(ramp, steps, v, z, buf);
     }
 }
 
-// The location of a pixel in a corner of a strip.
-fn corner(v: SignedVector, z: Strip, right: bool, below: bool) -> u32
-    requires { ⌜ Box (z .w) (z .h) × Bounded v × (z .a < z .b) × (z .b ≤ z .h) ⌝ }
+// The location of a pixel in a corner of the columns from `from` up to `end` of a strip.
+fn corner(v: SignedVector, z: Strip, from: usize, end: usize, right: bool, below: bool) -> u32
+    requires { ⌜ Box (z .w) (z .h) × Bounded v × (z .a < z .b) × (z .b ≤ z .h) × (from < end) × (end ≤ z .w) ⌝ }
 {
-    let i = if right { z.w - 1 } else { 0 };
+    let i = if right { end - 1 } else { from };
     let j = if below { z.b - 1 } else { z.a };
     line::location(Line::Straight(v), z.w, z.h, i, j, 0) as u32
 }
 
-// The least location in a strip.
-pub fn first(v: SignedVector, z: Strip) -> u32
-    requires { ⌜ Box (z .w) (z .h) × Bounded v × (z .a < z .b) × (z .b ≤ z .h) ⌝ }
+// The least location in these columns.
+pub fn first(v: SignedVector, z: Strip, from: usize, end: usize) -> u32
+    requires { ⌜ Box (z .w) (z .h) × Bounded v × (z .a < z .b) × (z .b ≤ z .h) × (from < end) × (end ≤ z .w) ⌝ }
 {
-    corner(v, z, v.left, v.up)
+    corner(v, z, from, end, v.left, v.up)
 }
 
-// The greatest location in a strip.
-pub fn last(v: SignedVector, z: Strip) -> u32
-    requires { ⌜ Box (z .w) (z .h) × Bounded v × (z .a < z .b) × (z .b ≤ z .h) ⌝ }
+// The greatest location in them.
+pub fn last(v: SignedVector, z: Strip, from: usize, end: usize) -> u32
+    requires { ⌜ Box (z .w) (z .h) × Bounded v × (z .a < z .b) × (z .b ≤ z .h) × (from < end) × (end ≤ z .w) ⌝ }
 {
-    corner(v, z, !v.left, !v.up)
+    corner(v, z, from, end, !v.left, !v.up)
 }
 
-// How many entries a table should have where the locations take n: none where copies leave few pixels to draw.
+// How many entries a table should have where the locations take n: none where few pixels are to be drawn.
 pub fn entries(v: SignedVector, s: Shift, z: Strip, n: usize) -> usize
     requires { ⌜ Box (z .w) (z .h) × Bounded v × (z .a < z .b) × (z .b ≤ z .h) ⌝ }
     ensures { λ r. ⌜ r ≤ n ⌝ }
 {
     let rows = z.b - z.a;
-    if is_worthwhile(v, s, z.w, rows) {
-        if new_pixels(s, z.w, rows) < n / 16 {
-            return 0;
-        }
-    }
-    n
+    let pixels = if is_worthwhile(v, s, z.w, rows) {
+        new_pixels(s, z.w, rows)
+    } else {
+        z.w * rows
+    };
+    if pixels < n / 8 { 0 } else { n }
 }

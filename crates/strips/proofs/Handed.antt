@@ -28,7 +28,10 @@ module _ {l : Line} {z : Strip} {n : ℕ} (p : Placed l (z .w) (z .h)) (r : Rows
 pub drawable : {rp : List ℕ} {l : Line} {z : Strip} {n : ℕ} → Drawable rp l z n → {k : Line} → l ≡ k → Drawable rp k z n
 drawable d e = rw e at d
 
+pub same-pixels : (q r : List ℕ) → Like q r → (l : Line) (w h i j : ℕ) → rampPixel r l w h i j ≡ rampPixel q l w h i j
+same-pixels q r s l w h i j = ap wordBytes (s .colors (locationBy (ruleIn l w h) i j))
+
 pub same-strip : (q r : List ℕ) → Like q r → (l : Line) (z : Strip) → stripOf r l z ≡ stripOf q l z
 same-strip q r s l z =
     strips-alike (rampPixel r l (z .w) (z .h)) (rampPixel q l (z .w) (z .h)) (z .w) (z .a) (z .b)
-    (λ i j h k m. ap wordBytes (s .colors (locationBy (ruleIn l (z .w) (z .h)) i j)))
+    (λ i j h k m. same-pixels q r s l (z .w) (z .h) i j)

@@ -5,6 +5,7 @@ use line::SignedVector;
 use rows::Strip;
 use straight::Shift;
 ghost use mathlib.Core.Path.{_≡_};
+ghost use mathlib.Core.Bool.{true};
 ghost use Prim.Native.Nat.{_+_, _≤_, _<_};
 ghost use lib.ListN.{length};
 ghost use Rattle.line.specs.declared.Line.{Line};
@@ -21,6 +22,12 @@ const NARROW: usize = 256;
 
 // The most columns of any strip.
 const WIDE: usize = 2048;
+
+// The most rows of a low strip.
+const LOW: usize = 64;
+
+// The columns of a section. A small table has room for the locations of so many columns of a low strip.
+const SECTION: usize = 192;
 
 // The last location that a table may start at.
 const LAST_BASE: u32 = 33000000;
@@ -98,11 +105,12 @@ fn draw_ready(ramp: &[u32], shift: Shift, l: Line, z: Strip, buf: &mut [u8])
 
 // ---- with stops, and room for a table
 
-// The table that a strip is drawn with, and the shift that may copy its rows.
+// The table that a strip is drawn with, and the shift that may copy its rows. A strip in sections has a table for each, of so many entries.
 struct Plan {
     base: u32,
     entries: usize,
     shift: Shift,
+    in_sections: bool,
 }
 
 // Makes a ramp with the planned table, in the room that is lent for it, and draws with it.
@@ -112,6 +120,38 @@ fn draw_with(ramp: &mut [u32], p: Plan, stops: &[u32], l: Line, z: Strip, buf: &
 {
     ramp::set_table(ramp, stops, p.base);
     draw_ready(ramp, p.shift, l, z, buf);
+}
+
+// Draws a strip along a line in sections, each with a table of its own in the room that is lent.
+fn draw_sections(ramp: &mut [u32], stops: &[u32], v: SignedVector, z: Strip, buf: &mut [u8])
+    requires { ⌜ Drawable (now stops) (Line.Straight v) z (length (now buf)) × Room 0 (length (now ramp)) ⌝ }
+    ensures { λ _. ⌜ now (buf .exit) ≡ patched (now (buf .entry)) 0 (stripOf (now (stops .entry)) (Line.Straight v) z) ⌝ }
+{
+    let steps = fixed::steps_of(v);
+    let mut i = 0;
+    while i < z.w {
+        let end = i + picture::at_most(SECTION, z.w - i);
+        ramp::set_table(ramp, stops, base_of(straight::first(v, z, i, end)));
+        straight::draw_band(ramp, steps, v, z, i, end, 0, buf);
+        i = end;
+    }
+}
+
+// In sections where the plan says so.
+fn draw_in_room(ramp: &mut [u32], p: Plan, stops: &[u32], l: Line, z: Strip, buf: &mut [u8])
+    requires { ⌜ Drawable (now stops) l z (length (now buf)) × Room (p .base) (length (now ramp)) ⌝ }
+    ensures { λ _. ⌜ now (buf .exit) ≡ patched (now (buf .entry)) 0 (stripOf (now (stops .entry)) l z) ⌝ }
+{
+    match l {
+        Line::Straight(v) => {
+            if p.in_sections {
+                draw_sections(ramp, stops, v, z, buf);
+            } else {
+                draw_with(ramp, p, stops, l, z, buf);
+            }
+        }
+        Line::Circle(_) => draw_with(ramp, p, stops, l, z, buf),
+    }
 }
 
 // `draw_with` once more, for the largest table alone. Having one caller, this copy is inlined all the way into `draw_large_box`. That makes
@@ -144,17 +184,40 @@ fn span(first: u32, last: u32) -> usize
     if n < LARGE { n + 1 } else { LARGE }
 }
 
+// How many entries a table for a section needs.
+fn section_entries(v: SignedVector, z: Strip) -> usize
+    requires { ⌜ Box (z .w) (z .h) × Bounded v × (z .a < z .b) × (z .b ≤ z .h) ⌝ }
+    ensures { λ r. ⌜ r ≤ mostEntries ⌝ }
+{
+    let end = picture::at_most(SECTION, z.w);
+    let n = span(straight::first(v, z, 0, end), straight::last(v, z, 0, end));
+    picture::at_most(SMALL, n + 1)
+}
+
 fn straight_plan(v: SignedVector, z: Strip) -> Plan
     requires { ⌜ Box (z .w) (z .h) × Bounded v × (z .a < z .b) × (z .b ≤ z .h) ⌝ }
     ensures { λ r. ⌜ Planned r mostEntries ⌝ }
 {
-    let first = straight::first(v, z);
-    let n = span(first, straight::last(v, z));
+    let first = straight::first(v, z, 0, z.w);
+    let n = span(first, straight::last(v, z, 0, z.w));
     let shift = straight::shift_of(v);
+    let entries = straight::entries(v, shift, z, n);
+    let base = base_of(first);
+    if SMALL < entries {
+        if z.b - z.a <= LOW {
+            return Plan {
+                base,
+                entries: section_entries(v, z),
+                shift,
+                in_sections: true,
+            };
+        }
+    }
     Plan {
-        base: base_of(first),
-        entries: straight::entries(v, shift, z, n),
+        base,
+        entries,
         shift,
+        in_sections: false,
     }
 }
 
@@ -167,7 +230,18 @@ fn circle_plan(c: BiasedCenter, z: Strip) -> Plan
         base: base_of(first),
         entries: span(first, circle::last(c, z)),
         shift: straight::no_shift(),
+        in_sections: false,
     }
+}
+
+// Whether one tiny table, or none, does.
+fn is_tiny(p: Plan) -> bool
+    ensures { λ r. ⌜ (r ≡ true → p .entries ≤ tinyTable) ⌝ }
+{
+    if p.in_sections {
+        return false;
+    }
+    p.entries <= TINY
 }
 
 // ---- with tables of four sizes
@@ -211,7 +285,7 @@ fn with_small(p: Plan, stops: &[u32], l: Line, z: Strip, buf: &mut [u8])
 {
     let mut room = small_room();
     let n = ramp::HEAD + p.entries;
-    draw_with(&mut room[..n], p, stops, l, z, buf);
+    draw_in_room(&mut room[..n], p, stops, l, z, buf);
 }
 
 fn with_large(p: Plan, stops: &[u32], l: Line, z: Strip, buf: &mut [u8])
@@ -260,7 +334,7 @@ pub fn draw(stops: &[u32], l: Line, z: Strip, buf: &mut [u8])
                 axisrows::draw_horizontal(stops, v, z, buf);
             } else {
                 let p = straight_plan(v, z);
-                if p.entries <= TINY {
+                if is_tiny(p) {
                     draw_small_box(p, stops, l, z, buf);
                 } else {
                     draw_large_box(p, stops, l, z, buf);
@@ -269,7 +343,7 @@ pub fn draw(stops: &[u32], l: Line, z: Strip, buf: &mut [u8])
         }
         Line::Circle(c) => {
             let p = circle_plan(c, z);
-            if p.entries <= TINY {
+            if is_tiny(p) {
                 draw_small_box(p, stops, l, z, buf);
             } else {
                 draw_large_box(p, stops, l, z, buf);

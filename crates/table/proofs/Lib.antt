@@ -2,3 +2,4 @@ pub mod Packing
 pub mod Stores
 pub mod Runs
 pub mod Walked
+pub mod Stretches

@@ -29,7 +29,7 @@ below-more P i h e m l = either (decLe i m)
         rw q e
     either (no p) = h m (omega arith)
 
-rising-le : (ps : List ℕ) → Rising ps → (i n : ℕ) → i + n < length ps → getD ps i 0 ≤ getD ps (i + n) 0
+pub rising-le : (ps : List ℕ) → Rising ps → (i n : ℕ) → i + n < length ps → getD ps i 0 ≤ getD ps (i + n) 0
 rising-le ps r i zero h = rw add-zero (le-refl (getD ps i 0))
 rising-le ps r i (suc n) h =
     let e : i + suc n ≡ i + n + 1 = omega arith in

@@ -66,22 +66,23 @@ module _ (vs : List ℕ) (i g s x a b k : ℕ) (w : Channels) (h : a ≤ k) (sp 
       ap packed (e vs i g s (x + (k - a) * s) (262143 - (k - a)) (rw e₁ at r))
 
   -- a leap that ends at the color where it began passes no other
-  pub reached-steady : k + 15 < b → (v : Channels) → ((c : Channel) → Further 15 (walkOf w c) (walkOf v c)) → Alike w v
-      → (j : ℕ) → k ≤ j → j < k + 16 → walkedAt vs i g s x a k ≡ walkedAt vs i g s x a j
+  pub reached-steady : (n : ℕ) → k + n < b → (v : Channels) → ((c : Channel) → Further n (walkOf w c) (walkOf v c)) → Alike w v
+      → (j : ℕ) → k ≤ j → j ≤ k + n → walkedAt vs i g s x a k ≡ walkedAt vs i g s x a j
   unfolding walkedAt
-  reached-steady l v e same j m o =
-      let e₁ : 262144 - (k - a) ≡ 262144 - (k + 16 - a) + 16 = omega (arith, sp .few) in
+  reached-steady n l v e same j m o =
+      let e₁ : 262144 - (k - a) ≡ 262144 - (k + n + 1 - a) + (n + 1) = omega (arith, sp .few) in
       let e₂ : k + (j - k) ≡ j = omega arith in
-      let z = going-steady vs i g s (x + (k - a) * s) (262144 - (k + 16 - a)) w v (near 15 l) (rw e₁ at r) e same (j - k) (omega arith) in
+      let z = going-steady n vs i g s (x + (k - a) * s) (262144 - (k + n + 1 - a)) w v (near n l) (rw e₁ at r) e same (j - k) (omega arith) in
       ap packed (sym (rw (along s x a k (j - k) h, e₂) at z))
 
--- past 16 entries
-pub reached-past : (vs : List ℕ) (i g s x a k : ℕ) (w v u : Channels) → a ≤ k → Reached vs i g s x a k w → ((c : Channel) → Further 15 (walkOf w c) (walkOf v c))
-    → ((c : Channel) → Fits 1 (walkOf v c) → Further 1 (walkOf v c) (walkOf u c)) → Spans g s x a (k + 17) → Reached vs i g s x a (k + 16) u
-reached-past vs i g s x a k w v u h r e f sp =
-    let r₁ = reached-further vs i g s x a (k + 17) k w h sp r 15 (omega arith) v e in
-    let l : k + 15 + 1 < k + 17 = omega arith in
-    let o : a ≤ k + 15 = omega arith in
-    let r₂ = reached-further vs i g s x a (k + 17) (k + 15) v o sp r₁ 1 l u (λ c. f c (reached-fits vs i g s x a (k + 17) (k + 15) v o sp r₁ 1 l c)) in
-    let q : k + 15 + 1 ≡ k + 16 = omega arith in
+-- past n entries
+pub reached-past : (n m : ℕ) → n ≡ m + 1 → (vs : List ℕ) (i g s x a k b : ℕ) → k + n < b → (w v u : Channels) → a ≤ k → Reached vs i g s x a k w
+    → ((c : Channel) → Further m (walkOf w c) (walkOf v c)) → ((c : Channel) → Fits 1 (walkOf v c) → Further 1 (walkOf v c) (walkOf u c))
+    → Spans g s x a b → Reached vs i g s x a (k + n) u
+reached-past n m z vs i g s x a k b y w v u h r e f sp =
+    let r₁ = reached-further vs i g s x a b k w h sp r m (omega arith) v e in
+    let l : k + m + 1 < b = omega arith in
+    let o : a ≤ k + m = omega arith in
+    let r₂ = reached-further vs i g s x a b (k + m) v o sp r₁ 1 l u (λ c. f c (reached-fits vs i g s x a b (k + m) v o sp r₁ 1 l c)) in
+    let q : k + m + 1 ≡ k + n = omega arith in
     subst (λ (z : ℕ). Reached vs i g s x a z u) q r₂

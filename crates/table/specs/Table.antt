@@ -12,6 +12,7 @@ use Rattle.color.specs.declared.Rgba.{Rgba}
 use Rattle.walk.specs.Walk.{mostSteps}
 use Rattle.walk.specs.Channels.{Going, mixOf}
 use Rattle.walk.specs.declared.Channels.{Channels}
+use Rattle.table.specs.declared.Stretch.{Stretch}
 
 -- the code takes locations below 2^63, so that the bias can be added to them
 abbrev pub locationLimit : ℕ
@@ -69,6 +70,21 @@ pub record Run (ps : List ℕ) (base s a b n : ℕ) : Type 0 where
   pub few : n < mostSteps
   pub range : base + n * s ≤ bias
   pub clear : Clear (length ps) ps (bias + (base + a * s)) (bias + (base + (b - 1) * s + 1))
+
+-- the positions at places i and i + 1 have a location between them, and it is not far away
+pub record Within (ps : List ℕ) (i : ℕ) : Type 0 where
+  pub location : ℕ
+  pub near : location < 16777216
+  pub splits : Splits ps (bias + location) (i + 1)
+
+-- a stretch lies between two stops, and its walks are at its first location
+pub record Stretched (ps vs : List ℕ) (t : Stretch) : Type 0 where
+  pub place : ℕ
+  pub gap : ℕ
+  pub start : ℕ
+  pub spans : Spans gap 1 start 0 (t .count)
+  pub reached : 0 < t .count → Reached vs place gap 1 start 0 0 (t .walks)
+  pub colors : (k : ℕ) → k < t .count → walkedAt vs place gap 1 start 0 k ≡ entryAt ps vs (t .first) 1 k
 
 -- the entries from a up to b are f's numbers, and those before a are as they were
 pub record Stored (f : ℕ → ℕ) (a b : ℕ) (t t′ : List ℕ) : Type 0 where

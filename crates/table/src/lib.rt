@@ -2,8 +2,10 @@
 // filled by walks, with no division per entry.
 use color::Rgba;
 use walk::Channels;
+use walk::Walk;
 ghost use mathlib.Core.Path.{_≡_};
 ghost use mathlib.Core.List.{List};
+ghost use mathlib.Core.Bool.{true};
 ghost use Prim.Native.Nat.{ℕ, _+_, _-_, _*_, _/_, _≤_, _<_};
 ghost use lib.ListN.{length, getD};
 ghost use Rattle.color.specs.Stop.{Channel};
@@ -11,10 +13,16 @@ ghost use Rattle.color.specs.Lent.{Lent, Small, lastUpTo};
 ghost use Rattle.numbers.specs.Biased.{bias};
 ghost use Rattle.walk.specs.Walk.{mostSteps, Gap, Fits};
 ghost use Rattle.walk.specs.Channels.{walkOf};
-ghost use Rattle.table.specs.Table.{packed, locationLimit, entryOf, entryAt, Spaced, walkedAt, Reached, Spans, Stored, Splits, Ends, Run};
+ghost use Rattle.table.specs.Table.{packed, locationLimit, entryOf, entryAt, Spaced, walkedAt, Reached, Spans, Stored, Splits, Ends, Run, Within, Stretched};
 
 // From this many units on, a gap is too long for walks.
 const LONG_GAP: u32 = 16777216;
+
+// The most locations of a stretch.
+const LONGEST: u32 = 262143;
+
+// From this location on there are no stretches.
+const FAR: u64 = 16777216;
 
 // ---- packed colors
 
@@ -67,7 +75,7 @@ fn fill_block(t: &mut [u32], at: usize, w: Channels) -> Channels
     ensures { λ r. ⌜ ((vs : List ℕ) (i g s x a : ℕ) → a ≤ at → Spans g s x a (at + 16) → Reached vs i g s x a at w
         → Stored (walkedAt vs i g s x a) at (at + 16) (now (t .entry)) (now (t .exit)) × (Spans g s x a (at + 17) → Reached vs i g s x a (at + 16) r)) ⌝ }
 {
-    let v = walk::leap_all(w);
+    let v = walk::leap_all(w, 15);
     if walk::alike(w, v) {
         fill_flat(t, at, at + 16, pack(walk::mixed(w)));
         return walk::next_all(v);
@@ -98,6 +106,82 @@ fn fill_walked(
         k += 16;
     }
     fill_steps(t, k, end, w);
+}
+
+// ---- the same where colors change slowly
+
+// Stores the next n colors of the walks, and takes the walks past them, as `fill_block` does for 16.
+fn fill_even(t: &mut [u32], at: usize, n: usize, w: Channels) -> Channels
+    requires { ⌜ (0 < n) × (at + n ≤ length (now t)) × ((c : Channel) → Fits (n - 1) (walkOf w c)) ⌝ }
+    ensures { λ r. ⌜ ((vs : List ℕ) (i g s x a : ℕ) → a ≤ at → Spans g s x a (at + n) → Reached vs i g s x a at w
+        → Stored (walkedAt vs i g s x a) at (at + n) (now (t .entry)) (now (t .exit)) × (Spans g s x a (at + n + 1) → Reached vs i g s x a (at + n) r)) ⌝ }
+{
+    let last = walk::leap_all(w, (n - 1) as u64);
+    if walk::alike(w, last) {
+        fill_flat(t, at, at + n, pack(walk::mixed(w)));
+        return walk::next_all(last);
+    }
+    fill_steps(t, at, at + n, w);
+    walk::next_all(last)
+}
+
+// How many of the entries that are left to store next: as many as seem to have one color, or 16.
+fn next_size(w: Channels, pace: u64, left: usize) -> usize
+    requires { ⌜ (0 < left) × (pace ≤ 4294967296) ⌝ }
+    ensures { λ r. ⌜ (0 < r) × (r ≤ left) ⌝ }
+{
+    let m = walk::steady_steps(w, pace);
+    if m < 7 {
+        return if left < 16 { left } else { 16 };
+    }
+    if m < left { m + 1 } else { left }
+}
+
+// Stores the colors of walks, one color at a time.
+fn fill_smooth(
+    t: &mut [u32],
+    at: usize,
+    end: usize,
+    values: &[u32],
+    i: usize,
+    g: u32,
+    stride: u32,
+    x: u32,
+)
+    requires { ⌜ (at ≤ end) × (end ≤ length (now t)) × (length (now t) < mostSteps) ⌝ }
+    requires { ⌜ (4 * i + 7 < length (now values)) × Small (now values) × Gap g stride x × Spans g stride x at end ⌝ }
+    ensures { λ _. ⌜ Stored (walkedAt (now (values .entry)) i g stride x at) at end (now (t .entry)) (now (t .exit)) ⌝ }
+{
+    let mut w = walk::begin_any(values, i, g, stride, x);
+    let pace = walk::pace(w);
+    let mut k = at;
+    while k < end {
+        let n = next_size(w, pace, end - k);
+        w = fill_even(t, k, n, w);
+        k += n;
+    }
+}
+
+// By the faster of the two.
+fn fill_gap(
+    t: &mut [u32],
+    at: usize,
+    end: usize,
+    values: &[u32],
+    i: usize,
+    g: u32,
+    stride: u32,
+    x: u32,
+)
+    requires { ⌜ (at ≤ end) × (end ≤ length (now t)) × (length (now t) < mostSteps) ⌝ }
+    requires { ⌜ (4 * i + 7 < length (now values)) × Small (now values) × Gap g stride x × Spans g stride x at end ⌝ }
+    ensures { λ _. ⌜ Stored (walkedAt (now (values .entry)) i g stride x at) at end (now (t .entry)) (now (t .exit)) ⌝ }
+{
+    if walk::is_smooth(values, i, g, stride) {
+        fill_smooth(t, at, end, values, i, g, stride, x);
+    } else {
+        fill_walked(t, at, end, values, i, g, stride, x);
+    }
 }
 
 // Stores the color of each location, found on its own.
@@ -183,7 +267,7 @@ fn fill_between(
         return;
     }
     let x = numbers::BIAS + (base + (at as u32) * stride) - a;
-    fill_walked(t, at, end, values, i, g, stride, x);
+    fill_gap(t, at, end, values, i, g, stride, x);
 }
 
 // Stores the colors of a run; `place` positions are at or below its first location.
@@ -231,4 +315,99 @@ pub fn fill_spaced(t: &mut [u32], positions: &[u32], values: &[u32], base: u32, 
         fill_run(t, k, end, positions, values, base, stride, place);
         k = end;
     }
+}
+
+// ---- stretches: colors from walks, with no table
+
+// `count` locations from `first` on that lie between two stops, and the walks at the first.
+pub struct Stretch {
+    pub first: u64,
+    pub count: u64,
+    pub walks: Channels,
+}
+
+fn standing() -> Walk {
+    Walk {
+        f: 0,
+        up: 0,
+        down: 0,
+    }
+}
+
+// A stretch of no locations.
+fn no_stretch() -> Stretch
+    ensures { λ t. ⌜ t .count ≡ 0 ⌝ }
+{
+    Stretch {
+        first: 0,
+        count: 0,
+        walks: Channels {
+            red: standing(),
+            green: standing(),
+            blue: standing(),
+            alpha: standing(),
+        },
+    }
+}
+
+// A position, or that of the location 0 where it is below.
+fn from_zero(a: u32) -> u32
+    ensures { λ r. ⌜ (bias ≤ r) × (a ≤ r) × ((n : ℕ) → bias ≤ n → a ≤ n → r ≤ n) ⌝ }
+{
+    if a < numbers::BIAS { numbers::BIAS } else { a }
+}
+
+// The stretch between stop i and the next.
+fn stretch_between(positions: &[u32], values: &[u32], i: usize) -> Stretch
+    requires { ⌜ Lent (now positions) (now values) × (i + 1 < length (now positions)) × Within (now positions) i ⌝ }
+    ensures { λ t. ⌜ Stretched (now (positions .entry)) (now (values .entry)) t ⌝ }
+{
+    let a = positions[i];
+    let g = positions[i + 1] - a;
+    if LONG_GAP <= g {
+        return no_stretch();
+    }
+    let first = from_zero(a);
+    let end = run_end(positions, i + 1, first + LONGEST);
+    Stretch {
+        first: (first - numbers::BIAS) as u64,
+        count: (end - first) as u64,
+        walks: walk::begin_any(values, i, g, 1, first - a),
+    }
+}
+
+// The stretch that s is in; one of no locations where s is not between two stops, or far away.
+pub fn stretch_at(positions: &[u32], values: &[u32], s: u64) -> Stretch
+    requires { ⌜ Lent (now positions) (now values) ⌝ }
+    ensures { λ t. ⌜ Stretched (now (positions .entry)) (now (values .entry)) t ⌝ }
+{
+    if FAR <= s {
+        return no_stretch();
+    }
+    let place = place_above(positions, 0, numbers::BIAS + (s as u32));
+    if place == 0 {
+        return no_stretch();
+    }
+    if place == positions.len() {
+        return no_stretch();
+    }
+    stretch_between(positions, values, place - 1)
+}
+
+// Whether a stretch has the location s.
+pub fn is_in(t: Stretch, s: u64) -> bool
+    ensures { λ r. ⌜ (r ≡ true → (t .first ≤ s) × (s < t .first + t .count)) ⌝ }
+{
+    if s < t.first {
+        return false;
+    }
+    s - t.first < t.count
+}
+
+// The color at a location that the stretch has.
+pub fn color_in(t: Stretch, s: u64) -> u32
+    requires { ⌜ (t .first ≤ s) × ((c : Channel) → Fits (s - t .first) (walkOf (t .walks) c)) ⌝ }
+    ensures { λ r. ⌜ ((ps vs : List ℕ) → Stretched ps vs t → s < t .first + t .count → r ≡ entryOf ps vs s) ⌝ }
+{
+    pack(walk::mixed(walk::leap_all(t.walks, s - t.first)))
 }

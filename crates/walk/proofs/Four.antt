@@ -33,10 +33,10 @@ module _ (n : ℕ) (vs : List ℕ) (i g s x left : ℕ) (w : Channels) (l : x + 
   going-further v e c = walk-further n (valuesAt vs i c) (valuesAt vs (i + 1) c) g s x left (walkOf w c) (h c) l (walkOf v c) (e c)
 
 -- a leap that ends at the color where it began passes no other
-pub going-steady : (vs : List ℕ) (i g s x left : ℕ) (w v : Channels) → x + 15 * s ≤ g → Going vs i g s x (left + 16) w
-    → ((c : Channel) → Further 15 (walkOf w c) (walkOf v c)) → Alike w v
-    → (n : ℕ) → n ≤ 15 → mixOf vs i (x + n * s) (g - (x + n * s)) ≡ mixOf vs i x (g - x)
-going-steady vs i g s x left w v l h e same n m =
+pub going-steady : (most : ℕ) (vs : List ℕ) (i g s x left : ℕ) (w v : Channels) → x + most * s ≤ g → Going vs i g s x (left + (most + 1)) w
+    → ((c : Channel) → Further most (walkOf w c) (walkOf v c)) → Alike w v
+    → (n : ℕ) → n ≤ most → mixOf vs i (x + n * s) (g - (x + n * s)) ≡ mixOf vs i x (g - x)
+going-steady most vs i g s x left w v l h e same n m =
     let byte : (c : Channel) → nearest (mix (valuesAt vs i c) (valuesAt vs (i + 1) c) (x + n * s) (g - (x + n * s))) ≡ nearest (mix (valuesAt vs i c) (valuesAt vs (i + 1) c) x (g - x)) =
-    λ c. walk-steady (valuesAt vs i c) (valuesAt vs (i + 1) c) g s x left (walkOf w c) (walkOf v c) (h c) l (e c) (same c) n m in
+    λ c. walk-steady most (valuesAt vs i c) (valuesAt vs (i + 1) c) g s x left (walkOf w c) (walkOf v c) (h c) l (e c) (same c) n m in
     rgba-is (λ c. nearest (mix (valuesAt vs i c) (valuesAt vs (i + 1) c) x (g - x))) (byte red) (byte green) (byte blue) (byte alpha)

@@ -227,35 +227,37 @@ module _ (n p q g s x left : ℕ) (w : Walk) (h : Walks p q g s x (left + n) w) 
       }
 
 -- ---- a leap that ends at the byte where it began passes no other
-between : (f up down z y n : ℕ) → n ≤ 15 → z + 15 * down ≡ f + 15 * up → y + n * down ≡ f + n * up → f / scale ≡ z / scale → y / scale ≡ f / scale
-between f up down z y n l ez ey same = either (decLe down up)
+between : (f up down z y m n : ℕ) → n ≤ m → z + m * down ≡ f + m * up → y + n * down ≡ f + n * up → f / scale ≡ z / scale → y / scale ≡ f / scale
+between f up down z y m n l ez ey same = either (decLe down up)
   where
     either : Dec (down ≤ up) → y / scale ≡ f / scale
     either (yes h) =
         let d : ℕ = up - down in
         let e : down + d ≡ up = omega arith in
-        let m : n * (down + d) ≡ n * up = ap (λ (k : ℕ). n * k) e in
-        let k : n * d ≤ 15 * d = mul-le-mul-right d l in
+        let o : n * (down + d) ≡ n * up = ap (λ (k : ℕ). n * k) e in
+        let p : m * (down + d) ≡ m * up = ap (λ (k : ℕ). m * k) e in
+        let k : n * d ≤ m * d = mul-le-mul-right d l in
         omega arith
     either (no h) =
         let d : ℕ = down - up in
         let e : up + d ≡ down = omega arith in
-        let m : n * (up + d) ≡ n * down = ap (λ (k : ℕ). n * k) e in
-        let k : n * d ≤ 15 * d = mul-le-mul-right d l in
+        let o : n * (up + d) ≡ n * down = ap (λ (k : ℕ). n * k) e in
+        let p : m * (up + d) ≡ m * down = ap (λ (k : ℕ). m * k) e in
+        let k : n * d ≤ m * d = mul-le-mul-right d l in
         omega arith
 
-module _ (p q g s x left : ℕ) (w v : Walk) (h : Walks p q g s x (left + 16) w) (l : x + 15 * s ≤ g) (e : Further 15 w v) (same : w .f / scale ≡ v .f / scale) where
-  pub walk-steady : (n : ℕ) → n ≤ 15 → nearest (mix p q (x + n * s) (g - (x + n * s))) ≡ nearest (mix p q x (g - x))
+module _ (most p q g s x left : ℕ) (w v : Walk) (h : Walks p q g s x (left + (most + 1)) w) (l : x + most * s ≤ g) (e : Further most w v) (same : w .f / scale ≡ v .f / scale) where
+  pub walk-steady : (n : ℕ) → n ≤ most → nearest (mix p q (x + n * s) (g - (x + n * s))) ≡ nearest (mix p q x (g - x))
   walk-steady n m =
-      let k : n * s ≤ 15 * s = mul-le-mul-right s m in
-      let e₁ : left + 16 ≡ left + 15 - n + 1 + n = omega arith in
-      let e₂ : left + 16 ≡ left + 15 + 1 = omega arith in
-      let a : Walks p q g s x (left + 15 - n + 1 + n) w = rw e₁ at h in
-      let b : Walks p q g s x (left + 15 + 1) w = rw e₂ at h in
-      let r = walk-fits n p q g s x (left + 15 - n + 1) w a (omega arith) .room in
+      let k : n * s ≤ most * s = mul-le-mul-right s m in
+      let e₁ : left + (most + 1) ≡ left + most - n + 1 + n = omega arith in
+      let e₂ : left + (most + 1) ≡ left + most + 1 = omega arith in
+      let a : Walks p q g s x (left + most - n + 1 + n) w = rw e₁ at h in
+      let b : Walks p q g s x (left + most + 1) w = rw e₂ at h in
+      let r = walk-fits n p q g s x (left + most - n + 1) w a (omega arith) .room in
       let u : Walk = record { f = w .f + n * w .up - n * w .down; up = w .up; down = w .down } in
       let f : u .f + n * w .down ≡ w .f + n * w .up = omega arith in
-      let o = walk-further n p q g s x (left + 15 - n + 1) w a (omega arith) u (record { f = f; up = refl; down = refl }) in
-      sym (walk-byte p q g s (x + n * s) (left + 15 - n) u o)
-      ∙ between (w .f) (w .up) (w .down) (v .f) (u .f) n m (e .f) f same
-      ∙ walk-byte p q g s x (left + 15) w b
+      let o = walk-further n p q g s x (left + most - n + 1) w a (omega arith) u (record { f = f; up = refl; down = refl }) in
+      sym (walk-byte p q g s (x + n * s) (left + most - n) u o)
+      ∙ between (w .f) (w .up) (w .down) (v .f) (u .f) most n m (e .f) f same
+      ∙ walk-byte p q g s x (left + most) w b

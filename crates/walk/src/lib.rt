@@ -24,6 +24,12 @@ const LEAD: u64 = 2 * MOST_STEPS;
 // In a gap of at most this many units one over 510 g is exact enough to be multiplied with.
 const SHORT_GAP: u32 = 16384;
 
+// What the numbers of a guess are divided by, so that their products fit.
+const COARSE: u64 = 4194304;
+
+// One, in the fixed point of paces.
+const PACE_ONE: u64 = 1099511627776;
+
 // ---- one channel
 
 // A channel in fixed point: its byte is f rounded down, and each step adds `up` and takes `down` away.
@@ -86,13 +92,13 @@ pub fn next(w: Walk) -> Walk
     }
 }
 
-// The walk 15 steps on.
-fn leap(w: Walk) -> Walk
-    requires { ⌜ Fits 15 w ⌝ }
-    ensures { λ v. ⌜ Further 15 w v ⌝ }
+// The walk n steps on.
+fn leap(w: Walk, n: u64) -> Walk
+    requires { ⌜ Fits n w ⌝ }
+    ensures { λ v. ⌜ Further n w v ⌝ }
 {
     Walk {
-        f: w.f + 15 * w.up - 15 * w.down,
+        f: w.f + n * w.up - n * w.down,
         up: w.up,
         down: w.down,
     }
@@ -172,6 +178,17 @@ pub fn begin_all(values: &[u32], i: usize, g: u32, s: u32, x: u32) -> Channels
     begin_long_all(values, i, g, s, x)
 }
 
+// `begin_all` once more, for all other callers.
+pub fn begin_any(values: &[u32], i: usize, g: u32, s: u32, x: u32) -> Channels
+    requires { ⌜ (4 * i + 7 < length (now values)) × Small (now values) × Gap g s x ⌝ }
+    ensures { λ w. ⌜ Going (now (values .entry)) i g s x mostSteps w ⌝ }
+{
+    if SHORT_GAP < g {
+        return begin_long_all(values, i, g, s, x);
+    }
+    begin_short_all(values, i, g, s, x)
+}
+
 // The walks one step on.
 pub fn next_all(w: Channels) -> Channels
     ensures { λ v. ⌜ ((c : Channel) → Fits 1 (walkOf w c) → Further 1 (walkOf w c) (walkOf v c)) ⌝ }
@@ -184,16 +201,16 @@ pub fn next_all(w: Channels) -> Channels
     }
 }
 
-// The walks 15 steps on.
-pub fn leap_all(w: Channels) -> Channels
-    requires { ⌜ ((c : Channel) → Fits 15 (walkOf w c)) ⌝ }
-    ensures { λ v. ⌜ ((c : Channel) → Further 15 (walkOf w c) (walkOf v c)) ⌝ }
+// The walks n steps on.
+pub fn leap_all(w: Channels, n: u64) -> Channels
+    requires { ⌜ ((c : Channel) → Fits n (walkOf w c)) ⌝ }
+    ensures { λ v. ⌜ ((c : Channel) → Further n (walkOf w c) (walkOf v c)) ⌝ }
 {
     Channels {
-        red: leap(w.red),
-        green: leap(w.green),
-        blue: leap(w.blue),
-        alpha: leap(w.alpha),
+        red: leap(w.red, n),
+        green: leap(w.green, n),
+        blue: leap(w.blue, n),
+        alpha: leap(w.alpha, n),
     }
 }
 
@@ -223,4 +240,87 @@ pub fn mixed(w: Channels) -> Rgba
         blue: byte(w.blue),
         alpha: byte(w.alpha),
     }
+}
+
+// ---- guesses: for how many steps the color stays the same. Nothing is proved of them but that they fit.
+
+fn greater(a: u64, b: u64) -> u64
+    ensures { λ r. ⌜ ((n : ℕ) → a < n → b < n → r < n) ⌝ }
+{
+    if a < b { b } else { a }
+}
+
+fn lesser(a: u64, b: u64) -> u64
+    ensures { λ r. ⌜ r ≤ a ⌝ }
+{
+    if a < b { a } else { b }
+}
+
+// How far apart two stops are in value k of the first.
+fn apart(values: &[u32], k: usize) -> u64
+    requires { ⌜ k + 4 < length (now values) ⌝ }
+    ensures { λ r. ⌜ r < 4294967296 ⌝ }
+{
+    let p = values[k] as u64;
+    let q = values[k + 4] as u64;
+    if p < q { q - p } else { p - q }
+}
+
+// Whether each byte stays the same for about 64 steps of s units or more, from stop i to the next, which is g units on.
+pub fn is_smooth(values: &[u32], i: usize, g: u32, s: u32) -> bool
+    requires { ⌜ 4 * i + 7 < length (now values) ⌝ }
+{
+    let k = 4 * i;
+    let d = greater(
+        greater(apart(values, k), apart(values, k + 1)),
+        greater(apart(values, k + 2), apart(values, k + 3)),
+    );
+    d * (s as u64) < 4 * (g as u64)
+}
+
+// How much a step changes the byte.
+fn slope(w: Walk) -> u64 {
+    if w.down < w.up {
+        w.up - w.down
+    } else {
+        w.down - w.up
+    }
+}
+
+// How many steps the fastest channel takes from one byte to the next, in fixed point.
+pub fn pace(w: Channels) -> u64
+    ensures { λ r. ⌜ r ≤ 4294967296 ⌝ }
+{
+    let s = greater(
+        greater(slope(w.red), slope(w.green)),
+        greater(slope(w.blue), slope(w.alpha)),
+    );
+    PACE_ONE / (s / COARSE + 256)
+}
+
+// How far a walk is from leaving its byte.
+fn rest(w: Walk) -> u64
+    ensures { λ r. ⌜ r < scale ⌝ }
+{
+    let past = w.f % ONE;
+    if w.up < w.down {
+        return past;
+    }
+    if w.down < w.up {
+        ONE - 1 - past
+    } else {
+        ONE - 1
+    }
+}
+
+// For how many steps all bytes seem to stay the same.
+pub fn steady_steps(w: Channels, pace: u64) -> usize
+    requires { ⌜ pace ≤ 4294967296 ⌝ }
+    ensures { λ r. ⌜ r < 4294967296 ⌝ }
+{
+    let r = lesser(
+        lesser(rest(w.red), rest(w.green)),
+        lesser(rest(w.blue), rest(w.alpha)),
+    );
+    (r / COARSE * pace / PACE_ONE) as usize
 }

@@ -1,8 +1,10 @@
 -- `replies::strip_reply` meets its contract. Assumes nothing.
 use mathlib.Core.Path.{sym, _∙_}
-use Prim.Native.Nat.{_-_, _≤_, _<_}
+use Prim.Native.Nat.{ℕ, _-_, _*_, _≤_, _<_}
 use native.Mathlib.Nat.{mul-le-mul}
 use native.Mathlib.Omega.{arith}
+use mir.Syntax.{w64}
+use mir.Val.{Fits}
 use borrow.Author.Needs.{needs}
 use borrow.Author.Tests.{not-false}
 use Rattle.replies.specs.Room.{stripReply}
@@ -17,6 +19,12 @@ strip-rows : (c : tie.Else2)
     → (c .before .before .before .before .args .first < c .before .before .before .before .args .end)
     × (c .before .before .before .before .args .end ≤ c .before .before .before .before .args .h)
 strip-rows c = rows-within _ _ _ (not-false _ (given-zero _ _ (sym (c .before .rows-reply .ensures) ∙ c .if2 .left)))
+
+-- the bytes of rows m up to k
+size-fits : (w k m : ℕ) → w ≤ 2048 → k ≤ 2048 → Fits w64 (4 * w * (k - m))
+size-fits w k m h l =
+    let n : k - m ≤ 2048 = omega arith in
+    omega (arith, mul-le-mul h n)
 
 box-reply-requires : tie.Need-box-reply-requires
 box-reply-requires c κs = search needs
@@ -40,11 +48,7 @@ sub-size-reply : tie.Need-sub-size-reply
 sub-size-reply c = omega (arith, strip-rows c .0)
 
 mul-size-reply-2 : tie.Need-mul-size-reply-2
-mul-size-reply-2 c =
-    let s = sides c in
-    let r = strip-rows c in
-    let n : c .before .before .before .before .args .end - c .before .before .before .before .args .first ≤ 2048 = omega arith in
-    omega (arith, mul-le-mul (s .0) n)
+mul-size-reply-2 c = let s = sides c in let r = strip-rows c in size-fits _ _ _ (s .0) (omega arith)
 
 size-reply-requires : tie.Need-size-reply-requires
 size-reply-requires c κs = search needs

@@ -15,7 +15,7 @@ sub-j : tie.Need-sub-j
 sub-j c = search needs
 
 column : (c : tie.Joined1) → c .if1 .i < c .before .args .z .w
-column c = ⊎-elim (λ w. omega (arith, w .1, c .before .pre .0 .some-width)) (λ w. omega (arith, w .1, c .before .pre .0 .some-width)) (c .if1 .came)
+column c = let p = c .before .pre in ⊎-elim (λ w. omega (arith, w .1, p .4, p .5)) (λ w. omega (arith, w .1, p .4, p .5)) (c .if1 .came)
 
 row : (c : tie.Joined2) → c .if2 .j < c .before .before .args .z .h
 row c = ⊎-elim (λ w. omega (arith, w .1)) (λ w. omega (arith, w .1)) (c .if2 .came)

@@ -18,8 +18,8 @@ draw-with-copies-requires c κs =
     let s = c .before .before .before .before .before .before .before in
     (s .pre .0, record { straight = s .pre .1; copies = c .before .before .is-worthwhile .ensures (c .before .if1 .taken) }, c .before .before .before .before .steps-of .ensures)
 
-draw-tiles-requires : tie.Need-draw-tiles-requires
-draw-tiles-requires c κs = search needs
+draw-new-requires : tie.Need-draw-new-requires
+draw-new-requires c κs = search needs
 
 same-length : tie.Need-same-length
 same-length c = search needs
@@ -41,7 +41,7 @@ draw-spec =
     sub-is-worthwhile
     is-worthwhile-requires
     draw-with-copies-requires
-    draw-tiles-requires
+    draw-new-requires
     same-length
     returns
     same-length-2

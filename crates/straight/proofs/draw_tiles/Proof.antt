@@ -15,6 +15,7 @@ use Rattle.picture.proofs.Rows.{strip-none, strip-join, strip-length}
 use Rattle.picture.proofs.Patches.{patch-none, patch-step}
 use Rattle.rows.specs.Pixel.{rampPixel}
 use Rattle.rows.proofs.Pixels.{four}
+use Rattle.straight.proofs.Columns.{columns-drawn}
 use Rattle.straight.proofs.draw_tiles.Statement.{statement}
 use Rattle.straight.proofs.draw_tiles.Tie as tie
 
@@ -58,7 +59,7 @@ draw-band-requires c κs =
     let l = c .before .before .before .before .before .loop in
     let n = c .before .at-most .ensures in
     let e : l .j + c .before .at-most .result - l .j ≡ c .before .at-most .result = omega arith in
-    (p .0, p .1, p .2, omega arith, omega (arith, n, p .3 .within), rw e (omega (arith, room (c .before) .0, l .inv .4)))
+    (p .0, p .1, p .2, omega arith, omega (arith, n, p .3 .within), rw e (omega (arith, room (c .before) .0, l .inv .4)), omega arith, omega arith)
 
 mul-o : tie.Need-mul-o Inv-loop μ-loop
 mul-o c = omega (arith, c .before .before .before .before .before .before .before .before .before .before .before .before .pre .1 .width)
@@ -80,10 +81,12 @@ loop-again c =
     let h = c .before .before .before .before .before .at-most .ensures in
     let px : (ℕ → ℕ → List ℕ) = rampPixel (now (a .ramp)) (L.Straight (a .v)) (a .z .w) (a .z .h) in
     let each : ((i j : ℕ) → length (px i j) ≡ 4) = four (now (a .ramp)) (L.Straight (a .v)) (a .z .w) (a .z .h) in
+    let some = c .before .before .before .before .before .before .before .before .before .before .before .before .pre .1 .some-width in
     let e : l .j + n - l .j ≡ n = omega arith in
     let f : l .j + n - a .z .a ≡ l .j - a .z .a + n = omega (arith, l .inv .2) in (
       patch-step (now (a .buf)) (strip px (a .z .w) (a .z .a) (l .j)) (strip px (a .z .w) (l .j) (l .j + n)) (l .buf) _ 0 (l .o) (rw (strip-length px each (a .z .w) (a .z .a) (l .j)) (omega arith))
-          (rw (strip-length px each (a .z .w) (l .j) (l .j + n), e) (room (c .before .before .before .before .before) .0)) (l .inv .0) (c .before .before .before .draw-band .ensures)
+          (rw (strip-length px each (a .z .w) (l .j) (l .j + n), e) (room (c .before .before .before .before .before) .0)) (l .inv .0)
+          (columns-drawn px each (l .buf) (l .o) (a .z .w) (l .j) (l .j + n) _ (rw e (omega (arith, room (c .before .before .before .before .before) .0))) some (c .before .before .before .draw-band .ensures (l .buf) refl))
           ∙ ap (patched (now (a .buf)) 0) (strip-join px (a .z .w) (a .z .a) (l .j) (l .j + n) (l .inv .2) (omega arith)),
       rw f (omega arith),
       omega arith,

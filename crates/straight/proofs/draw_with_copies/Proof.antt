@@ -19,8 +19,8 @@ ends c = omega (arith, c .pre .1 .copies .fewer)
 add-t8 : tie.Need-add-t8
 add-t8 c = search needs
 
-draw-tiles-requires : tie.Need-draw-tiles-requires
-draw-tiles-requires c κs =
+draw-new-requires : tie.Need-draw-new-requires
+draw-new-requires c κs =
     let s = c .before .before .before .before .before in
     let a = s .args in
     let p = s .pre .1 in
@@ -40,7 +40,7 @@ draw-shifted-requires c κs =
       s .pre .0,
       record { straight = record { bounded = p .straight .bounded; box = p .straight .box; strip = record { some = p .straight .strip .some; within = p .straight .strip .within; room = omega (arith, p .straight .strip .room) } }; copies = p .copies },
       first-stand px (four (now (a .ramp)) (L.Straight (a .v)) (a .z .w) (a .z .h)) (a .z .w) (a .z .a) (a .z .a + a .s .rows) (a .z .b) (now (a .buf)) _
-          (omega arith) (omega (arith, ends s)) (p .straight .strip .room) (c .before .before .before .draw-tiles .ensures),
+          (omega arith) (omega (arith, ends s)) (p .straight .strip .room) (c .before .before .before .draw-new .ensures),
       s .pre .2,
     )
 
@@ -53,8 +53,8 @@ returns c =
     let a = s .args in
     let px : (ℕ → ℕ → List ℕ) = rampPixel (now (a .ramp)) (L.Straight (a .v)) (a .z .w) (a .z .h) in
     all-drawn px (four (now (a .ramp)) (L.Straight (a .v)) (a .z .w) (a .z .h)) (a .z .w) (a .z .a) (a .z .a + a .s .rows) (a .z .b) (now (a .buf)) _
-    (omega arith) (omega (arith, ends s)) (s .pre .1 .straight .strip .room) (c .before .before .before .before .before .before .draw-tiles .ensures) _ (c .before .before .draw-shifted .ensures)
+    (omega arith) (omega (arith, ends s)) (s .pre .1 .straight .strip .room) (c .before .before .before .before .before .before .draw-new .ensures) _ (c .before .before .draw-shifted .ensures)
 
 pub draw-with-copies-spec : {M : Type 1} → statement M
 draw-with-copies-spec =
-    tie.close (tie.spec add-t8 draw-tiles-requires draw-shifted-requires same-length returns)
+    tie.close (tie.spec add-t8 draw-new-requires draw-shifted-requires same-length returns)

@@ -16,8 +16,11 @@ draw-horizontal-requires c κs = (drawable (c .before .before .before .before .b
 straight-plan-requires : tie.Need-straight-plan-requires
 straight-plan-requires c κs = let d = c .before .before .before .before .before .before .before .before .before .pre in let q = rw (c .before .before .before .before .before .l .given .1) at (d .placed) in (q .box, q .sound, d .rows .some, d .rows .within)
 
+is-tiny-requires : tie.Need-is-tiny-requires
+is-tiny-requires c κs = search needs
+
 draw-small-box-requires : tie.Need-draw-small-box-requires
-draw-small-box-requires c κs = let p = c .before .before .before .straight-plan .ensures in (drawable (c .before .before .before .before .before .before .before .before .before .before .before .before .before .pre) (c .before .before .before .before .before .before .before .before .before .l .given .1), record { base = p .base; entries = c .before .if3 .taken })
+draw-small-box-requires c κs = let p = c .before .before .before .straight-plan .ensures in (drawable (c .before .before .before .before .before .before .before .before .before .before .before .before .before .pre) (c .before .before .before .before .before .before .before .before .before .l .given .1), record { base = p .base; entries = c .before .before .is-tiny .ensures (c .before .if3 .taken) })
 
 draw-large-box-requires : tie.Need-draw-large-box-requires
 draw-large-box-requires c κs = let p = c .before .before .before .straight-plan .ensures in (drawable (c .before .before .before .before .before .before .before .before .before .before .before .before .before .pre) (c .before .before .before .before .before .before .before .before .before .l .given .1), p)
@@ -28,8 +31,11 @@ enum-known-l-2 c = search needs
 circle-plan-requires : tie.Need-circle-plan-requires
 circle-plan-requires c κs = let d = c .before .before .before .before .before .pre in let q = rw (c .before .l2 .given .1) at (d .placed) in (q .box, q .sound, d .rows .some, d .rows .within)
 
+is-tiny-requires-2 : tie.Need-is-tiny-requires-2
+is-tiny-requires-2 c κs = search needs
+
 draw-small-box-requires-2 : tie.Need-draw-small-box-requires-2
-draw-small-box-requires-2 c κs = let p = c .before .before .before .circle-plan .ensures in (drawable (c .before .before .before .before .before .before .before .before .before .pre) (c .before .before .before .before .before .l2 .given .1), record { base = p .base; entries = c .before .if4 .taken })
+draw-small-box-requires-2 c κs = let p = c .before .before .before .circle-plan .ensures in (drawable (c .before .before .before .before .before .before .before .before .before .pre) (c .before .before .before .before .before .l2 .given .1), record { base = p .base; entries = c .before .before .is-tiny2 .ensures (c .before .if4 .taken) })
 
 draw-large-box-requires-2 : tie.Need-draw-large-box-requires-2
 draw-large-box-requires-2 c κs = let p = c .before .before .before .circle-plan .ensures in (drawable (c .before .before .before .before .before .before .before .before .before .pre) (c .before .before .before .before .before .l2 .given .1), p)
@@ -78,10 +84,12 @@ draw-spec =
     draw-vertical-requires
     draw-horizontal-requires
     straight-plan-requires
+    is-tiny-requires
     draw-small-box-requires
     draw-large-box-requires
     enum-known-l-2
     circle-plan-requires
+    is-tiny-requires-2
     draw-small-box-requires-2
     draw-large-box-requires-2
     same-length

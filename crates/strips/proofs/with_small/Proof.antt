@@ -17,13 +17,13 @@ add-n c = search needs
 array-borrow-prefix-room : tie.Need-array-borrow-prefix-room
 array-borrow-prefix-room c = search needs
 
-slice-aggregate-draw-with : tie.Need-slice-aggregate-draw-with
-slice-aggregate-draw-with c =
+slice-aggregate-draw-in-room : tie.Need-slice-aggregate-draw-in-room
+slice-aggregate-draw-in-room c =
     let full : length (c .before .before .small-room .result) ≡ 16468 = search needs in
     sym (length-take-le _ _ (omega (arith, c .before .before .before .before .before .pre .1 .entries)))
 
-draw-with-requires : tie.Need-draw-with-requires
-draw-with-requires c κs =
+draw-in-room-requires : tie.Need-draw-in-room-requires
+draw-in-room-requires c κs =
     let s = c .before .before .before .before .before .before in
     let full : length (c .before .before .before .small-room .result) ≡ 16468 = search needs in
     let m : length (take (84 + s .args .p .entries) (c .before .before .before .small-room .result)) ≡ 84 + s .args .p .entries = length-take-le _ _ (omega (arith, s .pre .1 .entries)) in
@@ -42,7 +42,7 @@ with-small-spec =
     small-room-requires
     add-n
     array-borrow-prefix-room
-    slice-aggregate-draw-with
-    draw-with-requires
+    slice-aggregate-draw-in-room
+    draw-in-room-requires
     same-length
     returns)

@@ -79,8 +79,8 @@ add-x-2 c = omega (arith, low (c .before .before .before .before .before .before
 sub-x : tie.Need-sub-x
 sub-x c = ends (c .before .before .before .before .before .before .before) .0
 
-fill-walked-requires : tie.Need-fill-walked-requires
-fill-walked-requires c κs =
+fill-gap-requires : tie.Need-fill-gap-requires
+fill-gap-requires c κs =
     let s = c .before .before .before .before .before .before .before .before in
     let a = s .args in
     let p = s .pre in
@@ -103,7 +103,7 @@ returns-3 c =
     let p = s .pre in
     stored-same _ _ (a .at) (a .end) (now (a .t)) _
     (walked-entry (now (a .positions)) (now (a .values)) (p .0 .0) (a .base) (a .stride) (a .at) (a .end) (length (now (a .t))) (p .0 .1) (a .i) (p .1 .0) (p .1 .1))
-    (c .before .before .fill-walked .ensures)
+    (c .before .before .fill-gap .ensures)
 
 pub fill-between-spec : {M : Type 1} → statement M
 fill-between-spec =
@@ -126,6 +126,6 @@ fill-between-spec =
     add-x
     add-x-2
     sub-x
-    fill-walked-requires
+    fill-gap-requires
     same-length-3
     returns-3)

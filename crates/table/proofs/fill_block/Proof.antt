@@ -1,5 +1,5 @@
 -- `table::fill_block` meets its contract. Assumes nothing.
-use mathlib.Core.Path.{_∙_}
+use mathlib.Core.Path.{refl, _∙_}
 use Prim.Native.Nat.{_+_, _<_}
 use native.Mathlib.Omega.{arith}
 use denote.Ref.{now}
@@ -42,9 +42,9 @@ returns c = λ vs i g s x a h sp r.
       stored-same _ _ (b .at) (b .at + 16) (now (b .t)) _
           (λ k m n. c .before .before .before .before .pack .ensures
           ∙ reached-color vs i g s x a (b .at + 16) (b .at) (b .w) h sp r (omega arith) _ (c .before .before .before .before .before .mixed .ensures)
-          ∙ reached-steady vs i g s x a (b .at + 16) (b .at) (b .w) h sp r l v e (c .before .before .before .before .before .before .before .before .alike .ensures (c .before .before .before .before .before .before .before .if1 .taken)) k m n)
+          ∙ reached-steady vs i g s x a (b .at + 16) (b .at) (b .w) h sp r 15 l v e (c .before .before .before .before .before .before .before .before .alike .ensures (c .before .before .before .before .before .before .before .if1 .taken)) k m (omega arith))
           (c .before .before .before .fill-flat .ensures),
-      reached-past vs i g s x a (b .at) (b .w) v _ h r e (c .next-all .ensures),
+      reached-past 16 15 refl vs i g s x a (b .at) (b .at + 17) (omega arith) (b .w) v _ h r e (c .next-all .ensures),
     )
 
 add-fill-steps : tie.Need-add-fill-steps
@@ -63,7 +63,7 @@ returns-2 : tie.Need-returns-2
 returns-2 c = λ vs i g s x a h sp r.
     let b = c .before .before .before .before .before .before .before .before .before .args in (
       c .before .before .before .fill-steps .ensures vs i g s x a h sp (λ _. r),
-      reached-past vs i g s x a (b .at) (b .w) (c .before .before .before .before .before .before .before .leap-all .result) _ h r (c .before .before .before .before .before .before .before .leap-all .ensures) (c .next-all2 .ensures),
+      reached-past 16 15 refl vs i g s x a (b .at) (b .at + 17) (omega arith) (b .w) (c .before .before .before .before .before .before .before .leap-all .result) _ h r (c .before .before .before .before .before .before .before .leap-all .ensures) (c .next-all2 .ensures),
     )
 
 pub fill-block-spec : {M : Type 1} → statement M

@@ -21,7 +21,7 @@ leap-requires-4 c κs = c .before .before .before .pre alpha
 returns : tie.Need-returns
 returns c =
     let a = c .before .before .before .before .args in
-    every (λ d. Further 15 (walkOf (a .w) d) (walkOf _ d))
+    every (λ d. Further (a .n) (walkOf (a .w) d) (walkOf _ d))
     (c .before .before .before .leap .ensures) (c .before .before .leap2 .ensures) (c .before .leap3 .ensures) (c .leap4 .ensures)
 
 pub leap-all-spec : {M : Type 1} → statement M
