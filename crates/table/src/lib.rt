@@ -2,6 +2,7 @@
 // filled by walks, with no division per entry.
 use color::Rgba;
 use walk::Channels;
+use walk::Paces;
 use walk::Walk;
 ghost use mathlib.Core.Path.{_≡_};
 ghost use mathlib.Core.List.{List};
@@ -12,7 +13,7 @@ ghost use Rattle.color.specs.Stop.{Channel};
 ghost use Rattle.color.specs.Lent.{Lent, Small, lastUpTo};
 ghost use Rattle.numbers.specs.Biased.{bias};
 ghost use Rattle.walk.specs.Walk.{mostSteps, Gap, Fits};
-ghost use Rattle.walk.specs.Channels.{walkOf};
+ghost use Rattle.walk.specs.Channels.{walkOf, Paced};
 ghost use Rattle.table.specs.Table.{packed, locationLimit, entryOf, entryAt, Spaced, walkedAt, Reached, Spans, Stored, Splits, Ends, Run, Within, Stretched};
 
 // From this many units on, a gap is too long for walks.
@@ -126,11 +127,11 @@ fn fill_even(t: &mut [u32], at: usize, n: usize, w: Channels) -> Channels
 }
 
 // How many of the entries that are left to store next: as many as seem to have one color, or 16.
-fn next_size(w: Channels, pace: u64, left: usize) -> usize
-    requires { ⌜ (0 < left) × (pace ≤ 4294967296) ⌝ }
+fn next_size(w: Channels, p: Paces, left: usize) -> usize
+    requires { ⌜ (0 < left) × Paced p ⌝ }
     ensures { λ r. ⌜ (0 < r) × (r ≤ left) ⌝ }
 {
-    let m = walk::steady_steps(w, pace);
+    let m = walk::steady_steps(w, p);
     if m < 7 {
         return if left < 16 { left } else { 16 };
     }
@@ -153,10 +154,10 @@ fn fill_smooth(
     ensures { λ _. ⌜ Stored (walkedAt (now (values .entry)) i g stride x at) at end (now (t .entry)) (now (t .exit)) ⌝ }
 {
     let mut w = walk::begin_any(values, i, g, stride, x);
-    let pace = walk::pace(w);
+    let paces = walk::paces_of(w);
     let mut k = at;
     while k < end {
-        let n = next_size(w, pace, end - k);
+        let n = next_size(w, paces, end - k);
         w = fill_even(t, k, n, w);
         k += n;
     }

@@ -2,7 +2,7 @@
 -- Assumes nothing.
 use mathlib.Core.Path.{_≡_}
 use mathlib.Core.List.{List}
-use Prim.Native.Nat.{ℕ, _+_, _/_}
+use Prim.Native.Nat.{ℕ, _+_, _/_, _≤_}
 use Rattle.numbers.specs.Fraction.{nearest}
 use Rattle.color.specs.Stop.{Channel, red, green, blue, alpha}
 use Rattle.color.specs.Byte.{rgba}
@@ -11,6 +11,7 @@ use Rattle.color.specs.declared.Rgba.{Rgba}
 use Rattle.walk.specs.Walk.{Walks}
 use Rattle.walk.specs.declared.Walk.{Walk}
 use Rattle.walk.specs.declared.Channels.{Channels}
+use Rattle.walk.specs.declared.Paces.{Paces}
 
 abbrev pub walkOf : Channels → Channel → Walk
 walkOf w red = w .red
@@ -29,3 +30,13 @@ Alike w v = (c : Channel) → walkOf w c .f / scale ≡ walkOf v c .f / scale
 -- the color at x units from stop i and y from the next
 abbrev pub mixOf : List ℕ → ℕ → ℕ → ℕ → Rgba
 mixOf vs i x y = rgba (λ c. nearest (mix (valuesAt vs i c) (valuesAt vs (i + 1) c) x y))
+
+-- paces with which guesses fit
+abbrev pub mostPace : ℕ
+mostPace = 4294967296
+
+pub record Paced (p : Paces) : Type 0 where
+  pub red : p .red ≤ mostPace
+  pub green : p .green ≤ mostPace
+  pub blue : p .blue ≤ mostPace
+  pub alpha : p .alpha ≤ mostPace

@@ -10,7 +10,7 @@ ghost use Rattle.numbers.specs.Fraction.{nearest};
 ghost use Rattle.color.specs.Stop.{Channel};
 ghost use Rattle.color.specs.Lent.{Small, mix, scale};
 ghost use Rattle.walk.specs.Walk.{mostSteps, shortGap, Gap, InGap, numeratorAt, Walks, Further, Fits};
-ghost use Rattle.walk.specs.Channels.{walkOf, Going, Alike, mixOf};
+ghost use Rattle.walk.specs.Channels.{walkOf, Going, Alike, mixOf, mostPace, Paced};
 
 // The square root of `ONE`.
 const ROOT_OF_ONE: u64 = 134217728;
@@ -287,15 +287,29 @@ fn slope(w: Walk) -> u64 {
     }
 }
 
-// How many steps the fastest channel takes from one byte to the next, in fixed point.
-pub fn pace(w: Channels) -> u64
-    ensures { λ r. ⌜ r ≤ 4294967296 ⌝ }
+// How many steps each channel takes from one byte to the next, in fixed point.
+pub struct Paces {
+    pub red: u64,
+    pub green: u64,
+    pub blue: u64,
+    pub alpha: u64,
+}
+
+fn pace(w: Walk) -> u64
+    ensures { λ r. ⌜ r ≤ mostPace ⌝ }
 {
-    let s = greater(
-        greater(slope(w.red), slope(w.green)),
-        greater(slope(w.blue), slope(w.alpha)),
-    );
-    PACE_ONE / (s / COARSE + 256)
+    PACE_ONE / (slope(w) / COARSE + 256)
+}
+
+pub fn paces_of(w: Channels) -> Paces
+    ensures { λ p. ⌜ Paced p ⌝ }
+{
+    Paces {
+        red: pace(w.red),
+        green: pace(w.green),
+        blue: pace(w.blue),
+        alpha: pace(w.alpha),
+    }
 }
 
 // How far a walk is from leaving its byte.
@@ -313,14 +327,22 @@ fn rest(w: Walk) -> u64
     }
 }
 
-// For how many steps all bytes seem to stay the same.
-pub fn steady_steps(w: Channels, pace: u64) -> usize
-    requires { ⌜ pace ≤ 4294967296 ⌝ }
-    ensures { λ r. ⌜ r < 4294967296 ⌝ }
+// For how many steps a byte seems to stay the same.
+fn steady(w: Walk, pace: u64) -> u64
+    requires { ⌜ pace ≤ mostPace ⌝ }
+    ensures { λ r. ⌜ r < mostPace ⌝ }
+{
+    rest(w) / COARSE * pace / PACE_ONE
+}
+
+// For how many steps all bytes seem to.
+pub fn steady_steps(w: Channels, p: Paces) -> usize
+    requires { ⌜ Paced p ⌝ }
+    ensures { λ r. ⌜ r < mostPace ⌝ }
 {
     let r = lesser(
-        lesser(rest(w.red), rest(w.green)),
-        lesser(rest(w.blue), rest(w.alpha)),
+        lesser(steady(w.red, p.red), steady(w.green, p.green)),
+        lesser(steady(w.blue, p.blue), steady(w.alpha, p.alpha)),
     );
-    (r / COARSE * pace / PACE_ONE) as usize
+    r as usize
 }

@@ -12,18 +12,18 @@ use Rattle.table.proofs.fill_smooth.Statement.{statement}
 use Rattle.table.proofs.fill_smooth.Tie as tie
 
 abbrev Inv-loop : tie.InvT-loop
-Inv-loop t₀ at end values i g stride x w₀ pace k₀ t w k =
+Inv-loop t₀ at end values i g stride x w₀ paces k₀ t w k =
     Stored (walkedAt values i g stride x at) at k t₀ t
     × (k < end → Reached values i g stride x at k w) × (at ≤ k) × (k ≤ end) × (length t ≡ length t₀)
 
 abbrev μ-loop : tie.MeasureT-loop
-μ-loop t₀ at end values i g stride x w₀ pace k₀ t w k = end - k
+μ-loop t₀ at end values i g stride x w₀ paces k₀ t w k = end - k
 
 begin-any-requires : tie.Need-begin-any-requires Inv-loop μ-loop
 begin-any-requires c κs = let p = c .before .before .pre .1 in (p .0, p .1, p .2)
 
-pace-requires : tie.Need-pace-requires Inv-loop μ-loop
-pace-requires c κs = search needs
+paces-of-requires : tie.Need-paces-of-requires Inv-loop μ-loop
+paces-of-requires c κs = search needs
 
 loop-holds : tie.Need-loop-holds Inv-loop μ-loop
 loop-holds c =
@@ -36,7 +36,7 @@ sub-next-size : tie.Need-sub-next-size Inv-loop μ-loop
 sub-next-size c = omega arith
 
 next-size-requires : tie.Need-next-size-requires Inv-loop μ-loop
-next-size-requires c κs = (omega arith, c .before .before .pace .ensures)
+next-size-requires c κs = (omega arith, c .before .before .paces-of .ensures)
 
 fill-even-requires : tie.Need-fill-even-requires Inv-loop μ-loop
 fill-even-requires c κs =
@@ -47,7 +47,9 @@ fill-even-requires c κs =
     (n .0, omega (arith, n .1), reached-fits (now (a .values)) (a .i) (a .g) (a .stride) (a .x) (a .at) (a .end) (l .k) (l .w) (l .inv .2) (s .pre .1 .3) (l .inv .1 (omega arith)) _ (omega (arith, n .0, n .1)))
 
 add-k : tie.Need-add-k Inv-loop μ-loop
-add-k c = omega (arith, c .before .before .before .before .next-size .ensures)
+add-k c =
+    let p = c .before .before .before .before .before .before .before .before .before .before .before .pre .0 in
+    omega (arith, c .before .before .before .before .next-size .ensures, p .1, p .2)
 
 loop-less : tie.Need-loop-less Inv-loop μ-loop
 loop-less c = omega (arith, c .before .before .before .before .next-size .ensures)
@@ -83,7 +85,7 @@ fill-smooth-spec =
     Inv-loop
     μ-loop
     begin-any-requires
-    pace-requires
+    paces-of-requires
     loop-holds
     sub-next-size
     next-size-requires

@@ -15,24 +15,6 @@ at-most d =
 slope-requires : tie.Need-slope-requires
 slope-requires c κs = search needs
 
-slope-requires-2 : tie.Need-slope-requires-2
-slope-requires-2 c κs = search needs
-
-greater-requires : tie.Need-greater-requires
-greater-requires c κs = search needs
-
-slope-requires-3 : tie.Need-slope-requires-3
-slope-requires-3 c κs = search needs
-
-slope-requires-4 : tie.Need-slope-requires-4
-slope-requires-4 c κs = search needs
-
-greater-requires-2 : tie.Need-greater-requires-2
-greater-requires-2 c κs = search needs
-
-greater-requires-3 : tie.Need-greater-requires-3
-greater-requires-3 c κs = search needs
-
 add-result : tie.Need-add-result
 add-result c = search needs
 
@@ -40,19 +22,7 @@ div-result : tie.Need-div-result
 div-result c = search needs
 
 returns : tie.Need-returns
-returns c = at-most (c .greater3 .result / 4194304)
+returns c = at-most (c .slope .result / 4194304)
 
 pub pace-spec : {M : Type 1} → statement M
-pace-spec =
-    tie.close
-    (tie.spec
-    slope-requires
-    slope-requires-2
-    greater-requires
-    slope-requires-3
-    slope-requires-4
-    greater-requires-2
-    greater-requires-3
-    add-result
-    div-result
-    returns)
+pace-spec = tie.close (tie.spec slope-requires add-result div-result returns)
