@@ -13,7 +13,7 @@ extern "C" {
 
 enum { STOPS_MAX = 16, TEXT_ROOM = 512, READINGS = 4 };
 enum { TO_RIGHT, TO_BOTTOM, BY_ANGLE, TO_CORNER, CIRCLE, CIRCLE_ASIDE, DIRECTIONS };
-enum { SMALL, MIDDLE, STRIP, WHOLE, BOXES };
+enum { SMALL, MIDDLE, FLAT, WHOLE, BOXES };
 enum { COUNT_WIDTH = 640, COUNT_HEIGHT = 480 }; /* the box in which instructions are counted */
 
 struct color {
@@ -65,7 +65,20 @@ extern const struct painter *const painters[PAINTERS];
 
 /* clock.c */
 double least_of_round(double least, void (*work)(void), long batch);
+double least_of_wall_round(double least, void (*work)(void), long batch);
 long batch_for(void (*work)(void));
+
+/* timing.c */
+void fail(const char *why);
+
+/* strips.c: ns per pixel of a picture that is drawn whole and in strips of some rows, and in strips by one
+ * thread and by two. `whole` is memory for another picture. */
+enum { ALL_ROWS, ROWS_64, ROWS_16, ROWS_1, WAYS };
+enum { THREADS = 2 };
+void time_strips(const struct picture *picture, uint8_t *pixels, uint8_t *whole, int rounds,
+                 double per_pixel[WAYS]);
+void time_threads(const struct picture *picture, uint8_t *pixels, uint8_t *whole, int rounds,
+                  double per_pixel[THREADS]);
 
 /* How far a painter's picture is from the library's. */
 struct difference {
@@ -85,20 +98,26 @@ struct times {
     double of[DIRECTIONS][STOPS_MAX + 1][PAINTERS];
 };
 
+/* All that goals are made from. */
+struct measured {
+    struct times boxes[BOXES];
+    double ways[DIRECTIONS][STOPS_MAX + 1][WAYS]; /* ns per pixel in the largest box */
+};
+
 /* Instructions of one call, as counted before; 0 if they were not. */
 struct counts {
     long long draw[DIRECTIONS][STOPS_MAX + 1]; /* by direction and number of stops */
     long long read[READINGS];
 };
 
-/* goals.c: ratios of the library's times to the others' in the largest and the smallest box, and to its own
- * in the largest. */
-enum { TO_QT, TO_CAIRO, TO_MEMSET, SMALL_TO_QT, MIDDLE_TO_WHOLE, STRIP_TO_WHOLE, GOALS };
+/* goals.c: ratios of the library's times to the others' in the largest and the smallest box, to its own in
+ * the largest, and of strips of 64 rows to the whole. */
+enum { TO_QT, TO_CAIRO, TO_MEMSET, SMALL_TO_QT, MIDDLE_TO_WHOLE, FLAT_TO_WHOLE, STRIPS_TO_WHOLE, GOALS };
 struct goal {
     double ratio; /* 0 without the painter */
     double most;  /* that it should be; 0 for no goal */
 };
-struct goal make_goal(const struct times times[BOXES], int direction, int stops, int which);
+struct goal make_goal(const struct measured *measured, int direction, int stops, int which);
 bool missed(struct goal goal);
 
 /* report.c: the table to stdout, the same as JSON to a file if there is one. */
@@ -113,7 +132,11 @@ void report_line(struct report *report, const struct line *line);
 void report_means(struct report *report, double allowed);
 void report_counts(struct report *report, const struct counts *counts);
 void report_readings(struct report *report, const double *ns, const struct counts *counts);
-void report_goals(struct report *report, const struct times times[BOXES]);
+void report_strips_heading(struct report *report);
+void report_strips(struct report *report, const struct picture *picture, const double per_pixel[WAYS]);
+void report_threads_heading(struct report *report, bool left_out);
+void report_threads(struct report *report, const struct picture *picture, const double per_pixel[THREADS]);
+void report_goals(struct report *report, const struct measured *measured);
 
 #ifdef __cplusplus
 }

@@ -195,12 +195,85 @@ void report_readings(struct report *report, const double *ns, const struct count
     json(report, "\n  ]");
 }
 
+static const char *const ways[WAYS] = {"whole", "64 rows", "16 rows", "1 row"};
+
+static void json_picture(struct report *report, const struct picture *p) {
+    json_item(report);
+    json(report, "{\"width\": %zu, \"height\": %zu, \"direction\": \"%s\", \"stops\": %d", p->width,
+         p->height, p->direction, p->count);
+}
+
+void report_strips_heading(struct report *report) {
+    json_list(report, "strips");
+    printf("\nSTRIPS of %zux%zu (avarezhu_draw_rows), beside the picture drawn whole (avarezhu_draw)\n",
+           boxes[WHOLE].width, boxes[WHOLE].height);
+    printf("%-19s%40s%32s\n", "", "ns per pixel", "ratio strips to whole");
+    printf("%-14s%5s", "direction", "stops");
+    for (int way = 0; way < WAYS; way++)
+        printf("%10s", ways[way]);
+    for (int way = ROWS_64; way < WAYS; way++)
+        printf("%*s", way == ROWS_64 ? 12 : 10, ways[way]);
+    printf("\n");
+}
+
+void report_strips(struct report *report, const struct picture *picture, const double per_pixel[WAYS]) {
+    printf("%-14s%5d", picture->direction, picture->count);
+    json_picture(report, picture);
+    json(report, ", \"ns_per_pixel\": {");
+    for (int way = 0; way < WAYS; way++) {
+        column(10, per_pixel[way]);
+        json(report, way > 0 ? ", " : "");
+        json_figure(report, ways[way], per_pixel[way]);
+    }
+    json(report, "}, \"over_whole\": {");
+    for (int way = ROWS_64; way < WAYS; way++) {
+        double ratio = per_pixel[way] / per_pixel[ALL_ROWS];
+        column(way == ROWS_64 ? 12 : 10, ratio);
+        json(report, way > ROWS_64 ? ", " : "");
+        json_figure(report, ways[way], ratio);
+    }
+    printf("\n");
+    fflush(stdout);
+    json(report, "}}");
+}
+
+void report_threads_heading(struct report *report, bool left_out) {
+    json(report, "\n  ]");
+    json_list(report, "threads");
+    printf("\nTHREADS: %zux%zu in strips of 64 rows, wall time (CLOCK_MONOTONIC)\n", boxes[WHOLE].width,
+           boxes[WHOLE].height);
+    if (left_out) {
+        printf("left out: there is only one processor\n");
+        return;
+    }
+    printf("%-19s%24s%18s\n", "", "ns per pixel", "ratio one to two");
+    printf("%-14s%5s%12s%12s\n", "direction", "stops", "1 thread", "2 threads");
+}
+
+void report_threads(struct report *report, const struct picture *picture, const double per_pixel[THREADS]) {
+    double gain = per_pixel[0] / per_pixel[1];
+    printf("%-14s%5d", picture->direction, picture->count);
+    column(12, per_pixel[0]);
+    column(12, per_pixel[1]);
+    column(18, gain);
+    printf("\n");
+    fflush(stdout);
+    json_picture(report, picture);
+    json(report, ", \"rows\": 64, \"clock\": \"CLOCK_MONOTONIC\", \"ns_per_pixel\": {");
+    json_figure(report, "1 thread", per_pixel[0]);
+    json(report, ", ");
+    json_figure(report, "2 threads", per_pixel[1]);
+    json(report, "}, ");
+    json_figure(report, "one_over_two", gain);
+    json(report, "}");
+}
+
 static void column_goal(struct goal goal) {
     column(8, goal.ratio);
     if (goal.most > 0 && goal.ratio > 0)
-        printf("%s of %.1f", missed(goal) ? "!" : " ", goal.most);
+        printf("%s of %.2f", missed(goal) ? "!" : " ", goal.most);
     else
-        printf("%8s", "");
+        printf("%9s", "");
 }
 
 static void json_goal(struct report *report, const char *name, struct goal goal) {
@@ -212,7 +285,7 @@ static void json_goal(struct report *report, const char *name, struct goal goal)
 }
 
 /* One line of the goals: how many of them are missed. */
-static int report_goal(struct report *report, const struct times times[BOXES], int direction, int stops) {
+static int report_goal(struct report *report, const struct measured *measured, int direction, int stops) {
     static const char *const names[GOALS] = {
         "to qt",
         "to cairo",
@@ -220,13 +293,14 @@ static int report_goal(struct report *report, const struct times times[BOXES], i
         "64x64 to qt",
         "640x480 to 2048x2048",
         "2048x64 to 2048x2048",
+        "64 rows to whole",
     };
     int misses = 0;
     printf("%-14s%5d", directions[direction], stops);
     json_item(report);
     json(report, "{\"direction\": \"%s\", \"stops\": %d", directions[direction], stops);
     for (int which = 0; which < GOALS; which++) {
-        struct goal goal = make_goal(times, direction, stops, which);
+        struct goal goal = make_goal(measured, direction, stops, which);
         column_goal(goal);
         json_goal(report, names[which], goal);
         misses += missed(goal);
@@ -236,18 +310,19 @@ static int report_goal(struct report *report, const struct times times[BOXES], i
     return misses;
 }
 
-void report_goals(struct report *report, const struct times times[BOXES]) {
+void report_goals(struct report *report, const struct measured *measured) {
     int misses = 0;
+    json(report, "\n  ]");
     json_list(report, "goals");
     printf(
         "\nGOALS: ratios of the library's times, each of the most that it should be; ! where it is more\n");
-    printf("%-19s%-48s%-16s%s\n", "", "    at 2048x2048, to the others", "    at 64x64",
-           " ns per pixel, to its own at 2048x2048");
-    printf("%-14s%5s%8s%16s%16s", "direction", "stops", "Qt", "cairo", "memset");
-    printf("%16s%16s%16s\n", "Qt", "640x480", "2048x64");
+    printf("%-19s%-51s%-17s%-34s%s\n", "", "    at 2048x2048, to the others", "    at 64x64",
+           "  ns per pixel, to 2048x2048", "strips, to whole");
+    printf("%-14s%5s%8s%17s%17s", "direction", "stops", "Qt", "cairo", "memset");
+    printf("%17s%17s%17s%17s\n", "Qt", "640x480", "2048x64", "64 rows");
     for (int direction = 0; direction < DIRECTIONS; direction++) {
-        misses += report_goal(report, times, direction, 2);
-        misses += report_goal(report, times, direction, STOPS_MAX);
+        misses += report_goal(report, measured, direction, 2);
+        misses += report_goal(report, measured, direction, STOPS_MAX);
     }
     printf("missed: %d\n", misses);
     json(report, "\n  ]\n}\n");

@@ -1,5 +1,5 @@
 /*
- * Times the library, memset, cairo and Qt on the same pictures, and the reading of texts.
+ * Times the library, memset, cairo and Qt on the same pictures, the reading of texts, and drawing in strips.
  * They take turns: each round times all of them once, and the least of the rounds is kept for each.
  *
  *     timing full|quick COUNTS JSON    COUNTS holds the names of count.c, each with its instructions
@@ -35,8 +35,9 @@ const struct painter *const painters[PAINTERS] = {
 };
 
 static uint8_t *pixels, *reference;
+static cpu_set_t processors; /* all that there are for the process, before it stays on one */
 
-static void fail(const char *why) {
+void fail(const char *why) {
     fprintf(stderr, "timing: %s\n", why);
     exit(1);
 }
@@ -53,11 +54,18 @@ static uint8_t *pixel_memory(void) {
 static void stay_on_one_processor(void) {
     cpu_set_t set;
     int here = sched_getcpu();
+    if (sched_getaffinity(0, sizeof processors, &processors) != 0)
+        CPU_ZERO(&processors);
     CPU_ZERO(&set);
     if (here >= 0)
         CPU_SET(here, &set);
     if (here < 0 || sched_setaffinity(0, sizeof set, &set) != 0)
         fputs("timing: not bound to one processor\n", stderr);
+}
+
+/* Back to all processors; false if there is only one. */
+static bool spread_out(void) {
+    return CPU_COUNT(&processors) > 1 && sched_setaffinity(0, sizeof processors, &processors) == 0;
 }
 
 static struct difference compare(const struct picture *p, bool blue_first) {
@@ -134,6 +142,31 @@ static struct times time_box(struct report *report, struct box box, bool opaque,
     return times;
 }
 
+static void time_all_strips(struct report *report, struct measured *measured, int rounds) {
+    report_strips_heading(report);
+    for (int direction = 0; direction < DIRECTIONS; direction++)
+        for (int stops = 2; stops <= STOPS_MAX; stops += STOPS_MAX - 2) {
+            struct picture p = make_picture(boxes[WHOLE].width, boxes[WHOLE].height, direction, stops, true);
+            double *per_pixel = measured->ways[direction][stops];
+            time_strips(&p, pixels, reference, rounds, per_pixel);
+            report_strips(report, &p, per_pixel);
+        }
+}
+
+static void time_all_threads(struct report *report, int rounds) {
+    static const int drawn[] = {BY_ANGLE, CIRCLE};
+    bool left_out = !spread_out();
+    report_threads_heading(report, left_out);
+    if (left_out)
+        return;
+    for (size_t k = 0; k < sizeof drawn / sizeof *drawn; k++) {
+        struct picture p = make_picture(boxes[WHOLE].width, boxes[WHOLE].height, drawn[k], 2, true);
+        double per_pixel[THREADS];
+        time_threads(&p, pixels, reference, rounds, per_pixel);
+        report_threads(report, &p, per_pixel);
+    }
+}
+
 static const struct reading *being_read;
 static size_t being_read_length;
 
@@ -174,21 +207,23 @@ static struct counts load_counts(const char *path) {
 }
 
 static void time_all(struct report *report, bool quick, const char *counts_path) {
-    static struct times times[BOXES];
+    static struct measured measured;
     int rounds = quick ? QUICK_ROUNDS : FULL_ROUNDS;
     struct counts counts = load_counts(counts_path);
     double ns[READINGS] = {0};
     report_machine(report, rounds);
     report_heading(report);
     for (int k = 0; k < BOXES; k++)
-        times[k] = time_box(report, boxes[k], true, rounds);
+        measured.boxes[k] = time_box(report, boxes[k], true, rounds);
     if (!quick)
         time_box(report, boxes[MIDDLE], false, rounds);
     report_means(report, MEAN_MAX);
     report_counts(report, &counts);
     time_readings(ns, rounds);
     report_readings(report, ns, &counts);
-    report_goals(report, times);
+    time_all_strips(report, &measured, rounds);
+    time_all_threads(report, rounds);
+    report_goals(report, &measured);
 }
 
 int main(int argc, char **argv) {

@@ -48,15 +48,34 @@ static int read_all(int file, char *bytes, size_t room, size_t *length)
     return 1;
 }
 
-int read_input(const char *name, char *bytes, size_t room, size_t *length)
+int open_input(const char *name)
 {
-    int file = STDIN_FILENO, good;
-    if (!is_standard_input(name))
-        file = open(name, O_RDONLY | O_CLOEXEC | O_NOCTTY);
-    good = file >= 0 && read_all(file, bytes, room, length);
-    if (!good)
-        say_trouble(input_name(name), errno);
+    int file = is_standard_input(name) ? STDIN_FILENO : open(name, O_RDONLY | O_CLOEXEC | O_NOCTTY);
+    if (file < 0)
+        say_trouble(name, errno);
+    return file;
+}
+
+int read_part(int file, const char *name, void *bytes, size_t room, size_t *length)
+{
+    if (read_all(file, bytes, room, length))
+        return 1;
+    say_trouble(input_name(name), errno);
+    return 0;
+}
+
+void close_input(int file)
+{
     if (file > STDERR_FILENO)
         (void)close(file);
+}
+
+int read_input(const char *name, void *bytes, size_t room, size_t *length)
+{
+    int file = open_input(name), good;
+    if (file < 0)
+        return 0;
+    good = read_part(file, name, bytes, room, length);
+    close_input(file);
     return good;
 }

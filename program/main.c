@@ -7,13 +7,13 @@
 #include "avarezhu.h"
 
 #include "compare.h"
+#include "drawing.h"
 #include "input.h"
 #include "output.h"
 #include "refusal.h"
 #include "say.h"
 #include "status.h"
 
-#include <errno.h>
 #include <signal.h>
 #include <stdio.h>
 #include <stdlib.h>
@@ -89,14 +89,6 @@ static int read_tolerance(const char *word, unsigned *tolerance)
 
 /* ---- pictures */
 
-/* A picture in memory: its pixels, or a PNG file. */
-struct drawing {
-    size_t width;
-    size_t height;
-    uint8_t *bytes;
-    size_t length;
-};
-
 /* The largest pictures need some stack. The system ends a program that has too little without a word. */
 static int is_stack_enough(void)
 {
@@ -123,42 +115,47 @@ static enum status read_box(const struct request *r, FILE *answers, struct drawi
     return REFUSED;
 }
 
-/* Draws the text in the box that the first two words give. What is refused is told to `answers`. */
-static enum status make_drawing(const struct request *r, const char *name, int is_raw, FILE *answers, struct drawing *d)
+/* Begins to draw the text in the box that the first two words give. What is refused is told to `answers`. */
+static enum status begin_drawing(const struct request *r, const char *name, FILE *answers, struct drawing *d)
 {
     enum status status = read_box(r, answers, d);
-    size_t length;
     uint32_t reply;
     if (status != DONE)
         return status;
-    if (!is_stack_enough() || !read_input(name, text, sizeof text, &length))
+    d->text.at = text;
+    if (!is_stack_enough() || !read_input(name, text, sizeof text, &d->text.length) || !draw_first(d, &reply))
         return TROUBLE;
-    d->length = is_raw ? AVAREZHU_PIXELS_SIZE(d->width, d->height) : AVAREZHU_PNG_SIZE(d->width, d->height);
-    d->bytes = malloc(d->length);
-    if (d->bytes == NULL) {
-        say_trouble("the picture", ENOMEM);
-        return TROUBLE;
-    }
-    reply = (is_raw ? avarezhu_draw : avarezhu_png)(text, length, d->width, d->height, d->bytes, d->length);
     if (reply == AVAREZHU_DONE)
         return DONE;
-    explain_text(answers, reply, between(text, text + length), input_name(name));
+    explain_text(answers, reply, d->text, input_name(name));
     return REFUSED;
 }
 
 /* ---- commands */
 
+/* Writes what is drawn, and goes on until there is no more. */
+static enum status write_drawing(struct drawing *d, struct output *out)
+{
+    int good = 1;
+    if (!open_output(out))
+        return TROUBLE;
+    while (good && d->length > 0)
+        good = write_output(out, d->bytes, d->length) && draw_next(d);
+    return close_output(out, good) ? DONE : TROUBLE;
+}
+
 static enum status run_draw(const struct request *r)
 {
     static struct output out;
-    struct drawing d = {0, 0, NULL, 0};
+    struct drawing d = {0};
     const char *name = r->words[2];
     enum status status;
     if (!clear_output(&out, name, r->words[3]))
         return TROUBLE;
-    status = make_drawing(r, r->words[3], r->is_raw || ends_with(slice_of(name), ".raw"), stderr, &d);
-    if (status == DONE && !write_output(&out, d.bytes, d.length))
-        status = TROUBLE;
+    d.is_raw = r->is_raw || ends_with(slice_of(name), ".raw");
+    status = begin_drawing(r, r->words[3], stderr, &d);
+    if (status == DONE)
+        status = write_drawing(&d, &out);
     free(d.bytes);
     return status;
 }
@@ -180,41 +177,43 @@ static enum status run_check(const struct request *r)
     return REFUSED;
 }
 
-/* Reads a frame of `size` bytes and no more. */
-static uint8_t *read_frame(const char *name, size_t size)
+/* Reads the frame along with what is drawn. It has as many bytes as the picture and no more. */
+static enum status compare_frame(int file, const char *name, struct drawing *d, unsigned tolerance)
 {
-    char *frame = malloc(size + 1);
-    size_t length;
-    if (frame == NULL)
-        say_trouble("the frame", ENOMEM);
-    else if (read_input(name, frame, size + 1, &length)) {
-        if (length == size)
-            return (uint8_t *)frame;
-        say("%s: this frame has %s%zu bytes; the picture has %zu", input_name(name), length > size ? "at least " : "", length,
-            size);
+    static uint8_t frame[STRIP_SIZE + 1];
+    struct comparison c = {.width = d->width, .height = d->height, .tolerance = tolerance};
+    size_t n, length = 0, size = AVAREZHU_PIXELS_SIZE(d->width, d->height);
+    while (d->length > 0) {
+        /* with the last strip, one byte that should not be there */
+        if (!read_part(file, name, frame, d->length + (d->end == d->height), &n))
+            return TROUBLE;
+        length += n;
+        if (n < d->length)
+            break;
+        compare_strip(&c, d->bytes, frame, d->length / 4);
+        if (!draw_next(d))
+            return TROUBLE;
     }
-    free(frame);
-    return NULL;
+    if (length == size)
+        return give_verdict(&c);
+    say("%s: this frame has %s%zu bytes; the picture has %zu", input_name(name), length > size ? "at least " : "", length,
+        size);
+    return TROUBLE;
 }
 
 static enum status run_compare(const struct request *r)
 {
-    struct drawing d = {0, 0, NULL, 0};
-    struct picture expected;
-    uint8_t *frame;
+    struct drawing d = {0};
     enum status status;
+    int file;
     if (is_standard_input(r->words[2]) && is_standard_input(r->words[3]))
         return misuse("-", "standard input cannot be both the frame and the recipe");
-    status = make_drawing(r, r->words[3], 1, stdout, &d);
+    d.is_raw = 1;
+    status = begin_drawing(r, r->words[3], stdout, &d);
     if (status == DONE) {
-        expected.width = d.width;
-        expected.height = d.height;
-        expected.pixels = d.bytes;
-        frame = read_frame(r->words[2], d.length);
-        status = frame == NULL                        ? TROUBLE
-                 : is_zero(&expected, r->tolerance) ? REFUSED
-                                                      : compare(&expected, frame, r->tolerance);
-        free(frame);
+        file = open_input(r->words[2]);
+        status = file < 0 ? TROUBLE : compare_frame(file, r->words[2], &d, r->tolerance);
+        close_input(file);
     }
     free(d.bytes);
     return status;

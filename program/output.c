@@ -169,28 +169,16 @@ static int write_all(int file, const uint8_t *bytes, size_t length)
     return 1;
 }
 
-/* Writes to a file that is open and closes it; the first error counts. */
-static int write_and_close(int file, const uint8_t *bytes, size_t length)
-{
-    int error = write_all(file, bytes, length) ? 0 : errno;
-    if (close(file) != 0 && error == 0)
-        error = errno;
-    errno = error;
-    return error == 0;
-}
-
-static int write_device(const char *name, const uint8_t *bytes, size_t length)
+static int open_device(const char *name)
 {
     struct stat found;
     int file = open(name, O_WRONLY | O_CLOEXEC | O_NOCTTY);
-    if (file < 0)
-        return 0;
-    if (fstat(file, &found) == 0 && S_ISREG(found.st_mode)) {
+    if (file >= 0 && fstat(file, &found) == 0 && S_ISREG(found.st_mode)) {
         (void)close(file);
         errno = EBUSY; /* it was none a moment ago */
-        return 0;
+        return -1;
     }
-    return write_and_close(file, bytes, length);
+    return file;
 }
 
 /* ---- a new file: written beside its path, and renamed when all of it is there */
@@ -311,33 +299,46 @@ static int rename_temporary(const char *path)
     return 0;
 }
 
-static int write_file(const char *path, const uint8_t *bytes, size_t length)
+static void remove_temporary(void)
 {
-    int file = create_temporary(path), error = 0;
-    if (file < 0)
-        return 0;
-    if (!set_mode(file) || !write_all(file, bytes, length) || !sync_file(file))
-        error = errno;
-    if (close(file) != 0 && error == 0)
-        error = errno;
-    if (error == 0 && !rename_temporary(path))
-        error = errno;
-    if (error != 0 && is_temporary_there) {
+    if (is_temporary_there)
         (void)unlink(temporary);
-        is_temporary_there = 0;
-    }
-    errno = error;
-    return error == 0;
+    is_temporary_there = 0;
+}
+
+/* ---- any kind of output */
+
+int open_output(struct output *out)
+{
+    out->file = out->kind == STANDARD_OUTPUT ? STDOUT_FILENO
+                : out->kind == DEVICE        ? open_device(out->name)
+                                             : create_temporary(out->path);
+    if (out->file < 0)
+        say_trouble(out->name, errno);
+    return out->file >= 0;
 }
 
 int write_output(const struct output *out, const uint8_t *bytes, size_t length)
 {
-    int good = out->kind == STANDARD_OUTPUT ? write_all(STDOUT_FILENO, bytes, length)
-               : out->kind == DEVICE        ? write_device(out->name, bytes, length)
-                                            : write_file(out->path, bytes, length);
-    if (!good)
-        say_trouble(out->name, errno);
-    return good;
+    if (write_all(out->file, bytes, length))
+        return 1;
+    say_trouble(out->name, errno);
+    return 0;
+}
+
+int close_output(const struct output *out, int is_whole)
+{
+    int is_named = is_whole && out->kind == REGULAR, error = 0;
+    if (is_named && !(set_mode(out->file) && sync_file(out->file)))
+        error = errno;
+    if (out->kind != STANDARD_OUTPUT && close(out->file) != 0 && error == 0)
+        error = errno;
+    if (is_named && error == 0 && !rename_temporary(out->path))
+        error = errno;
+    remove_temporary();
+    if (is_whole && error != 0)
+        say_trouble(out->name, error);
+    return is_whole && error == 0;
 }
 
 /* ---- standard files */

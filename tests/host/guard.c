@@ -1,5 +1,5 @@
 /*
- * Calls the seven exports with every slice in a mapping of its own, between two pages that may not be
+ * Calls the nine exports with every slice in a mapping of its own, between two pages that may not be
  * touched. What must come back is known from the rules and docs/LAYOUT.md, since the texts and boxes
  * were chosen so; nothing is computed with the library. Ends with status 1 at the first difference.
  */
@@ -17,11 +17,13 @@
 
 #define COUNT(array) (sizeof(array) / sizeof *(array))
 
-enum export { READ, PLACE, PLACE_GRADIENT, DRAW, DRAW_GRADIENT, DRAW_STOPS, PNG, EXPORTS };
+enum export { READ, PLACE, PLACE_GRADIENT, DRAW, DRAW_GRADIENT, DRAW_ROWS, DRAW_GRADIENT_ROWS, DRAW_STOPS, PNG, EXPORTS };
 static const char *const export_names[EXPORTS] = {
-    "avarezhu_read",          "avarezhu_place",      "avarezhu_place_gradient", "avarezhu_draw",
-    "avarezhu_draw_gradient", "avarezhu_draw_stops", "avarezhu_png",
+    "avarezhu_read",          "avarezhu_place",     "avarezhu_place_gradient",     "avarezhu_draw",
+    "avarezhu_draw_gradient", "avarezhu_draw_rows", "avarezhu_draw_gradient_rows", "avarezhu_draw_stops",
+    "avarezhu_png",
 };
+static const int replies[] = {0, 1, 2, 3, 4, 5, 6, 8};
 
 /* Where a slice stands. The last two are for slices of 0 bytes only. */
 enum spot { FRONT, BACK, ODD, NOWHERE, INSIDE_GUARD, SPOTS };
@@ -41,6 +43,7 @@ struct call {
     struct bytes in;    /* text or gradient */
     struct bytes stops; /* for DRAW_STOPS */
     size_t width, height;
+    size_t first, end; /* for DRAW_ROWS and DRAW_GRADIENT_ROWS */
     size_t lent;
     uint32_t reply;
     struct bytes answer;
@@ -61,7 +64,7 @@ static const struct call *current;
 static enum spot current_spot;
 static struct region regions[3];
 static size_t region_count;
-static unsigned long made[EXPORTS][7];
+static unsigned long made[EXPORTS][9];
 
 /* ---- Reporting ---- */
 
@@ -88,7 +91,12 @@ static void print_layout(const char *name, struct bytes b)
 
 static bool takes_gradient(enum export e)
 {
-    return e == PLACE_GRADIENT || e == DRAW_GRADIENT || e == DRAW_STOPS;
+    return e == PLACE_GRADIENT || e == DRAW_GRADIENT || e == DRAW_GRADIENT_ROWS || e == DRAW_STOPS;
+}
+
+static bool draws_rows(enum export e)
+{
+    return e == DRAW_ROWS || e == DRAW_GRADIENT_ROWS;
 }
 
 static _Noreturn void fail(const char *what)
@@ -103,6 +111,8 @@ static _Noreturn void fail(const char *what)
             print_layout("stops", current->stops);
         if (current->export != READ)
             fprintf(stderr, "  box: %zu by %zu\n", current->width, current->height);
+        if (draws_rows(current->export))
+            fprintf(stderr, "  rows: %zu up to %zu\n", current->first, current->end);
         fprintf(stderr, "  lent: %zu bytes\n", current->lent);
         fprintf(stderr, "  slices: %s\n", spot_names[current_spot]);
     }
@@ -206,6 +216,11 @@ static uint32_t make(const struct call *c, const struct region *in, const struct
         return avarezhu_draw(text, in->length, c->width, c->height, lent->slice, lent->length);
     case DRAW_GRADIENT:
         return avarezhu_draw_gradient(in->slice, in->length, c->width, c->height, lent->slice, lent->length);
+    case DRAW_ROWS:
+        return avarezhu_draw_rows(text, in->length, c->width, c->height, c->first, c->end, lent->slice, lent->length);
+    case DRAW_GRADIENT_ROWS:
+        return avarezhu_draw_gradient_rows(in->slice, in->length, c->width, c->height, c->first, c->end, lent->slice,
+                                           lent->length);
     case DRAW_STOPS:
         return avarezhu_draw_stops(in->slice, in->length, stops->slice, stops->length, c->width, c->height,
                                    lent->slice, lent->length);
@@ -265,8 +280,8 @@ static void try_call(const struct call *c)
 /* ---- Charts known in every box ---- */
 
 /*
- * The first `edge` pixels of each row have the bytes `before`, the others `after`; stops and gradient
- * are the same bytes in every box.
+ * The first `edge` pixels of each row, or the first rows, have the bytes `before`, the others `after`;
+ * stops and gradient are the same bytes in every box.
  */
 struct chart {
     const char *text;
@@ -281,6 +296,18 @@ static const struct chart angled = {
     "linear-gradient(90deg, red 2px, blue 2px)",
     {
         [0] = 2, [12] = 8, [16] = 0x90, 0x5f, 0x01, 0x00,                                /* 90000 */
+        [64] = 255, 0, 0, 255, 1, 0, 0, 0, 0xd0, 0x07, 0, 0, 0, 0, 0, 0,                 /* 2000 */
+        [80] = 0, 0, 255, 255, 1, 0, 0, 0, 0xd0, 0x07, 0, 0, 0, 0, 0, 0,
+    },
+    {[0] = 2, [4] = 255, 0, 0, 255, 128, 0, 0, 0, 0, 0, 255, 255, 128, 0, 0, 0},
+    2, {255, 0, 0, 255}, {0, 0, 255, 255},
+};
+
+/* 180deg has vector (0, 16384): row j lies at 64j + 32. */
+static const struct chart downward = {
+    "linear-gradient(180deg, red 2px, blue 2px)",
+    {
+        [0] = 2, [12] = 8, [16] = 0x20, 0xbf, 0x02, 0x00,                                /* 180000 */
         [64] = 255, 0, 0, 255, 1, 0, 0, 0, 0xd0, 0x07, 0, 0, 0, 0, 0, 0,                 /* 2000 */
         [80] = 0, 0, 255, 255, 1, 0, 0, 0, 0xd0, 0x07, 0, 0, 0, 0, 0, 0,
     },
@@ -310,6 +337,15 @@ static struct bytes paint(size_t width, size_t height, size_t edge, const uint8_
     struct bytes b = {picture, 4 * width * height};
     for (size_t i = 0; i < width * height; i++)
         memcpy(picture + 4 * i, i % width < edge ? before : after, 4);
+    return b;
+}
+
+/* Rows of the picture of `downward`. */
+static struct bytes paint_rows(size_t width, size_t first, size_t end)
+{
+    struct bytes b = {picture, 4 * width * (end - first)};
+    for (size_t i = 0; i < width * (end - first); i++)
+        memcpy(picture + 4 * i, first + i / width < downward.edge ? downward.before : downward.after, 4);
     return b;
 }
 
@@ -422,6 +458,11 @@ static const struct text texts[] = {
     {{late_range, sizeof late_range}, 5, NULL},
 };
 
+static struct bytes of_text(const char *text)
+{
+    return (struct bytes){(const uint8_t *)text, strlen(text)};
+}
+
 static void pad(uint8_t *out, size_t length, const char *text)
 {
     memset(out, ' ', length);
@@ -485,15 +526,111 @@ static void try_prefixes(void)
         TEXT("linear-gradient(" EIGHT ", " EIGHT ", red)"),
         TEXT("RADIAL-GRADIENT(\tCIRCLE\n,\rWHITE\f0PX,SILVER 100%\t)"),
     };
-    static const enum export exports[] = {READ, PLACE, DRAW, PNG};
+    static const enum export exports[] = {READ, PLACE, DRAW, DRAW_ROWS, PNG};
     for (size_t i = 0; i < COUNT(whole); i++)
         for (size_t length = 0; length < whole[i].length; length++)
             for (size_t e = 0; e < COUNT(exports); e++) {
-                struct call c = {.export = exports[e], .in = {whole[i].at, length}, .width = 7, .height = 5};
+                struct call c = {.export = exports[e], .in = {whole[i].at, length}, .width = 7, .height = 5, .end = 5};
                 c.lent = needed(exports[e], (struct box){7, 5});
                 c.reply = 4;
                 try_call(&c);
             }
+}
+
+/* ---- Strips ---- */
+
+struct rows {
+    size_t first, end;
+};
+
+static bool rows_fit(struct rows r, size_t height)
+{
+    return r.first < r.end && r.end <= height;
+}
+
+/* One strip with each length lent. For rows that are refused these are lengths about the picture's. */
+static void try_strip(struct call c, struct rows rows, uint32_t own)
+{
+    struct box box = {c.width, c.height};
+    bool sound = box_fits(box) && rows_fit(rows, c.height);
+    size_t need = !box_fits(box) ? 16 : 4 * c.width * (sound ? rows.end - rows.first : c.height);
+    const size_t lengths[] = {need, 0, 1, need - 1, need + 1, 4 * c.width};
+    c.first = rows.first;
+    c.end = rows.end;
+    if (sound)
+        c.answer = paint_rows(c.width, c.first, c.end);
+    for (size_t i = 0; i < (box_fits(box) ? COUNT(lengths) : 2); i++) {
+        c.lent = lengths[i];
+        uint32_t room = c.lent < need ? 2 : 0;
+        c.reply = !box_fits(box) ? 1 : !sound ? 8 : lower(room, own);
+        try_call(&c);
+    }
+}
+
+/* Rows at the edges of a picture, past them, and with numbers that wrap. */
+static void try_rows(struct call c, uint32_t own)
+{
+    const size_t h = c.height, half = SIZE_MAX / 2 + 1, quarter = SIZE_MAX / 4 + 1;
+    const struct rows list[] = {
+        {0, 1}, {0, h}, {1, 2}, {1, h}, {2, h}, {h / 2, h}, {h - 1, h}, {h - 2, h - 1}, {0, h - 1},
+        {0, 0}, {1, 1}, {h, h}, {1, 0}, {h, 0}, {h, h - 1}, {h + 1, h},
+        {0, h + 1}, {h - 1, h + 1}, {h, h + 1}, {h + 1, h + 2}, {0, SIZE_MAX}, {h, SIZE_MAX},
+        {SIZE_MAX, 0}, {SIZE_MAX, 1}, {SIZE_MAX, h}, {SIZE_MAX, SIZE_MAX}, {SIZE_MAX - 1, SIZE_MAX},
+        /* 4 * width * rows wraps to 0, or to a row */
+        {0, quarter}, {0, half}, {1, quarter + 1}, {0, quarter + 1}, {1, half + 2}, {half, 0}, {quarter + 1, 1},
+#if SIZE_MAX > UINT32_MAX
+        /* row 0, if cut to 32 bits */
+        {0, (size_t)UINT32_MAX + 2}, {(size_t)UINT32_MAX + 1, (size_t)UINT32_MAX + 2}, {(size_t)UINT32_MAX + 1, 1},
+#endif
+    };
+    for (size_t i = 0; i < COUNT(list); i++)
+        try_strip(c, list[i], own);
+}
+
+static void try_text_rows(struct box box, struct bytes text, uint32_t own)
+{
+    struct call c = {.export = DRAW_ROWS, .in = text, .width = box.width, .height = box.height};
+    try_rows(c, own);
+}
+
+/* The gradient of `downward` with another count and angle, and as a slice of another length. */
+static void try_gradient_rows(struct box box, uint8_t count, uint8_t angle, size_t length, uint32_t own)
+{
+    static uint8_t gradient[400];
+    struct call c = {.export = DRAW_GRADIENT_ROWS, .in = {gradient, length}, .width = box.width, .height = box.height};
+    memset(gradient, 0, sizeof gradient);
+    memcpy(gradient, downward.gradient, sizeof downward.gradient);
+    gradient[0] = count;
+    gradient[16] = angle;
+    try_rows(c, own);
+}
+
+/* In every box what is drawn, in three of them what is refused. An angle of 180,001 thousandths is out of its range. */
+static void try_strips(void)
+{
+    static const struct box few[] = {{7, 5}, {4, 1}, {2049, 3}};
+    static const struct text refused[] = {
+        {{one_more, sizeof one_more}, 3, NULL},
+        {TEXT(""), 4, NULL},
+        {TEXT("linear-gradient(180deg, red 2px, blue 2px"), 4, NULL},
+        {{late_fault, sizeof late_fault}, 4, NULL},
+        {TEXT("linear-gradient(45.1deg, red, blue)"), 5, NULL},
+        {TEXT("linear-gradient(" EIGHT ", " EIGHT ", red)"), 6, NULL},
+    };
+    static const size_t lengths[] = {0, 1, 319, 321, 400};
+    for (size_t k = 0; k < COUNT(boxes); k++) {
+        try_text_rows(boxes[k], of_text(downward.text), 0);
+        try_gradient_rows(boxes[k], 2, 0x20, AVAREZHU_GRADIENT_SIZE, 0);
+    }
+    for (size_t k = 0; k < COUNT(few); k++) {
+        for (size_t i = 0; i < COUNT(refused); i++)
+            try_text_rows(few[k], refused[i].bytes, refused[i].own);
+        for (size_t i = 0; i < COUNT(lengths); i++)
+            try_gradient_rows(few[k], 2, 0x20, lengths[i], 4);
+        try_gradient_rows(few[k], 1, 0x21, AVAREZHU_GRADIENT_SIZE, 4);
+        try_gradient_rows(few[k], 17, 0x21, AVAREZHU_GRADIENT_SIZE, 5);
+        try_gradient_rows(few[k], 17, 0x20, AVAREZHU_GRADIENT_SIZE, 6);
+    }
 }
 
 /* ---- Layouts handed in ---- */
@@ -577,14 +714,16 @@ static void put(uint8_t *at, uint32_t word)
         at[i] = (uint8_t)(word >> 8 * i);
 }
 
-/* The three exports that take a gradient, in 4 by 1 pixels; a sound one has the color of `round_one`. */
+/* The four exports that take a gradient, in 4 by 1 pixels; a sound one has the color of `round_one`. */
 static void try_gradient(const uint8_t *gradient, uint32_t own)
 {
-    struct call c = {.in = {gradient, AVAREZHU_GRADIENT_SIZE}, .width = 4, .height = 1, .reply = own};
+    struct call c = {.in = {gradient, AVAREZHU_GRADIENT_SIZE}, .width = 4, .height = 1, .end = 1, .reply = own};
     c.stops = (struct bytes){round_one.stops, AVAREZHU_STOPS_SIZE};
     c.answer = paint(4, 1, 0, round_one.before, round_one.after);
     c.export = DRAW_GRADIENT;
     c.lent = 16;
+    try_call(&c);
+    c.export = DRAW_GRADIENT_ROWS;
     try_call(&c);
     c.export = DRAW_STOPS;
     try_call(&c);
@@ -715,11 +854,6 @@ static const uint8_t red_dot[72] = {
     0, 0, 0, 0, 'I', 'E', 'N', 'D', 174, 66, 96, 130,
 };
 
-static struct bytes of_text(const char *text)
-{
-    return (struct bytes){(const uint8_t *)text, strlen(text)};
-}
-
 static void try_worked(void)
 {
     struct call c = {.width = 0};
@@ -728,6 +862,9 @@ static void try_worked(void)
         c.in = of_text(drawn[i].text);
         c.answer = (struct bytes){drawn[i].pixels, 4 * box.width * box.height};
         c.export = DRAW;
+        try_lengths(c, box, 0);
+        c.export = DRAW_ROWS;
+        c.end = box.height;
         try_lengths(c, box, 0);
         c.answer = file_of(c.answer, box.width, box.height);
         c.export = PNG;
@@ -755,7 +892,7 @@ static void try_room(struct call c)
     try_call(&c);
 }
 
-/* The largest picture, whole: red up to the middle, then blue. */
+/* The largest picture, whole and its last 64 rows: red up to the middle, then blue. */
 static void try_largest(void)
 {
     struct call c = {.export = DRAW, .width = 2048, .height = 2048};
@@ -764,6 +901,10 @@ static void try_largest(void)
     try_room(c);
     c.export = PNG;
     c.answer = file_of(c.answer, 2048, 2048);
+    try_room(c);
+    c.export = DRAW_ROWS;
+    c.first = 1984, c.end = 2048;
+    c.answer = paint(2048, 64, 1024, angled.before, angled.after);
     try_room(c);
 }
 
@@ -790,10 +931,15 @@ static void check_structs(void)
         fail("avarezhu_stops does not overlay its layout");
 }
 
-/* Reading knows no box, and only texts are too long. */
+/* Reading knows no box, only texts are too long, and only strips have rows. */
 static bool may_reply(enum export e, int reply)
 {
-    return reply == 1 ? e != READ : reply != 3 || !takes_gradient(e);
+    switch (reply) {
+    case 1: return e != READ;
+    case 3: return !takes_gradient(e);
+    case 8: return draws_rows(e);
+    default: return true;
+    }
 }
 
 /* Answers whether every reply was given. */
@@ -801,15 +947,16 @@ static bool print_counts(void)
 {
     unsigned long all = 0;
     bool complete = true;
-    printf("%-24s", "calls by reply");
-    for (int reply = 0; reply < 7; reply++)
-        printf("%7d", reply);
+    printf("%-28s", "calls by reply");
+    for (size_t i = 0; i < COUNT(replies); i++)
+        printf("%7d", replies[i]);
     for (int e = 0; e < EXPORTS; e++) {
-        printf("\n%-24s", export_names[e]);
-        for (int reply = 0; reply < 7; reply++) {
-            printf("%7lu", made[e][reply]);
-            all += made[e][reply];
-            complete &= made[e][reply] > 0 || !may_reply((enum export)e, reply);
+        printf("\n%-28s", export_names[e]);
+        for (size_t i = 0; i < COUNT(replies); i++) {
+            unsigned long count = made[e][replies[i]];
+            printf("%7lu", count);
+            all += count;
+            complete &= count > 0 || !may_reply((enum export)e, replies[i]);
         }
     }
     printf("\n%lu calls, every byte as expected\n", all);
@@ -824,6 +971,7 @@ int main(void)
     try_worked();
     try_texts();
     try_prefixes();
+    try_strips();
     try_layouts();
     try_damage(&angled, of_angled, COUNT(of_angled));
     try_damage(&round_one, of_round, COUNT(of_round));

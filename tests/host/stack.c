@@ -28,10 +28,11 @@ enum {
 
 enum paint { NO_PAINT, PAINT = 0x5a, OTHER_PAINT = 0xa5 };
 
-enum export { READ, PLACE, PLACE_GRADIENT, DRAW, DRAW_GRADIENT, DRAW_STOPS, PNG, EXPORTS };
+enum export { READ, PLACE, PLACE_GRADIENT, DRAW, DRAW_GRADIENT, DRAW_ROWS, DRAW_GRADIENT_ROWS, DRAW_STOPS, PNG, EXPORTS };
 static const char *const export_names[EXPORTS] = {
-    "avarezhu_read",          "avarezhu_place",      "avarezhu_place_gradient", "avarezhu_draw",
-    "avarezhu_draw_gradient", "avarezhu_draw_stops", "avarezhu_png",
+    "avarezhu_read",          "avarezhu_place",     "avarezhu_place_gradient",     "avarezhu_draw",
+    "avarezhu_draw_gradient", "avarezhu_draw_rows", "avarezhu_draw_gradient_rows", "avarezhu_draw_stops",
+    "avarezhu_png",
 };
 
 #define FOUR(a) a ", " a ", " a ", " a
@@ -84,6 +85,7 @@ struct job {
     uint32_t own; /* the reply to the text */
     uint8_t gradient[AVAREZHU_GRADIENT_SIZE];
     uint8_t stops[AVAREZHU_STOPS_SIZE];
+    size_t first, end; /* rows, for a strip */
     size_t lent;
     enum paint paint;
     uint8_t *low;
@@ -112,6 +114,11 @@ static uint32_t call(const struct job *j)
         return avarezhu_draw(j->text, j->text_length, width, height, lent, j->lent);
     case DRAW_GRADIENT:
         return avarezhu_draw_gradient(j->gradient, sizeof j->gradient, width, height, lent, j->lent);
+    case DRAW_ROWS:
+        return avarezhu_draw_rows(j->text, j->text_length, width, height, j->first, j->end, lent, j->lent);
+    case DRAW_GRADIENT_ROWS:
+        return avarezhu_draw_gradient_rows(j->gradient, sizeof j->gradient, width, height, j->first, j->end, lent,
+                                           j->lent);
     case DRAW_STOPS:
         return avarezhu_draw_stops(j->gradient, sizeof j->gradient, j->stops, sizeof j->stops, width, height, lent,
                                    j->lent);
@@ -120,18 +127,30 @@ static uint32_t call(const struct job *j)
     }
 }
 
+static bool takes_text(enum export e)
+{
+    return e == READ || e == PLACE || e == DRAW || e == DRAW_ROWS || e == PNG;
+}
+
+static bool draws_rows(enum export e)
+{
+    return e == DRAW_ROWS || e == DRAW_GRADIENT_ROWS;
+}
+
 static bool fits(struct box b)
 {
     return b.width >= 1 && b.width <= 2048 && b.height >= 1 && b.height <= 2048;
 }
 
-/* The bytes that a call needs; in a box that does not fit, some number. */
+/* The bytes that a call needs, a strip for the lower two thirds; in a box that does not fit, some number. */
 static size_t needed(enum export e, struct box b)
 {
     switch (e) {
     case READ: return AVAREZHU_GRADIENT_SIZE;
     case PLACE:
     case PLACE_GRADIENT: return AVAREZHU_STOPS_SIZE;
+    case DRAW_ROWS:
+    case DRAW_GRADIENT_ROWS: return fits(b) ? AVAREZHU_PIXELS_SIZE(b.width, b.height - b.height / 3) : 16;
     case PNG: return fits(b) ? AVAREZHU_PNG_SIZE(b.width, b.height) : 80;
     default: return fits(b) ? AVAREZHU_PIXELS_SIZE(b.width, b.height) : 16;
     }
@@ -140,12 +159,13 @@ static size_t needed(enum export e, struct box b)
 /* Gradient and stops are zeros where the text was refused, which gets 4. */
 static uint32_t right_reply(const struct job *j)
 {
-    bool takes_text = j->export == READ || j->export == PLACE || j->export == DRAW || j->export == PNG;
     if (j->export != READ && !fits(j->box))
         return AVAREZHU_BAD_BOX;
+    if (draws_rows(j->export) && (j->first >= j->end || j->end > j->box.height))
+        return AVAREZHU_BAD_ROWS;
     if (j->lent < needed(j->export, j->box))
         return AVAREZHU_NO_ROOM;
-    return takes_text || j->own == AVAREZHU_DONE ? j->own : AVAREZHU_MALFORMED;
+    return takes_text(j->export) || j->own == AVAREZHU_DONE ? j->own : AVAREZHU_MALFORMED;
 }
 
 static void check(const struct job *j, uint32_t reply)
@@ -227,14 +247,31 @@ static void run(struct job *j)
         most_above = j->above;
 }
 
-/* The exports from this one on with this text and box, with room enough and with 1 byte. */
+/* An export with the bytes that it needs; for a strip, the lower two thirds of the rows. */
+static void set_export(struct job *j, enum export e)
+{
+    j->export = e;
+    j->first = j->box.height / 3;
+    j->end = j->box.height;
+    j->lent = needed(e, j->box);
+}
+
+/*
+ * The exports from this one on with this text and box, with room enough and with 1 byte; strips also with
+ * a row too many, and of the last row alone.
+ */
 static unsigned run_all(struct job *j, enum export first)
 {
     unsigned runs = 0;
     for (int e = (int)first; e < EXPORTS; e++)
-        for (int k = 0; k < 2; k++, runs++) {
-            j->export = (enum export)e;
-            j->lent = k ? 1 : needed(j->export, j->box);
+        for (int k = 0; k < (draws_rows((enum export)e) ? 4 : 2); k++, runs++) {
+            set_export(j, (enum export)e);
+            if (k == 1)
+                j->lent = 1;
+            if (k == 2)
+                j->end++;
+            if (k == 3)
+                j->first = j->end - 1;
             run(j);
         }
     return runs;
@@ -279,8 +316,7 @@ static void warm_up(void)
     struct job j;
     prepare(&j, &recipes[0], boxes[0]);
     for (int e = 0; e < EXPORTS; e++) {
-        j.export = (enum export)e;
-        j.lent = needed(j.export, j.box);
+        set_export(&j, (enum export)e);
         check(&j, call(&j));
     }
 }
@@ -298,8 +334,7 @@ static void *all_calls(void *argument)
     for (size_t i = 0; i < COUNT(recipes); i++) {
         prepare(&j, &recipes[i], (struct box){2048, 2048});
         for (int e = 0; e < EXPORTS; e++, ++*runs) {
-            j.export = (enum export)e;
-            j.lent = needed(j.export, j.box);
+            set_export(&j, (enum export)e);
             check(&j, call(&j));
         }
     }
@@ -354,7 +389,7 @@ int main(void)
     runs += run_recipes(OTHER_PAINT);
     printf("stack in bytes, the most of %u calls\n", runs);
     for (int e = 0; e < EXPORTS; e++) {
-        printf("%-24s %7zu  %s\n", export_names[e], deepest[e], where[e]);
+        printf("%-28s %7zu  %s\n", export_names[e], deepest[e], where[e]);
         failed |= deepest[e] > AVAREZHU_STACK;
     }
     if (failed) {

@@ -1,9 +1,10 @@
 """Faults that a shell cannot time: interrupts while a file is written, and pipes that are closed or full.
 
-    faults.py PROGRAM TEXT FOLDER
+    faults.py PROGRAM TEXT FOLDER ROWS
 
-FOLDER is empty, and is left so. Prints how often the program was run.
+FOLDER is empty, and is left so. ROWS is the height of a strip. Prints how often the program was run.
 """
+import itertools
 import os
 import random
 import signal
@@ -11,9 +12,10 @@ import subprocess
 import sys
 import time
 
-program, text, folder = sys.argv[1:]
+program, text, folder, rows = sys.argv[1:]
 out = os.path.join(folder, "o.raw")
 size = 4 * 2048 * 2048
+strip = 4 * 2048 * int(rows)
 draw = [program, "draw", "2048", "2048", out, text]
 caught = [signal.SIGHUP, signal.SIGINT, signal.SIGQUIT, signal.SIGTERM, signal.SIGUSR1]
 runs = 0
@@ -31,9 +33,17 @@ def start(words, ignored=(), **files):
     return subprocess.Popen(words, preexec_fn=before, **files)
 
 
-def await_temporary(process):
-    """Waits until the file is being written, or the program has ended."""
-    while process.poll() is None and not any(n.startswith(".avarezhu-") for n in os.listdir(folder)):
+def is_written(least):
+    """Whether the temporary file is there and has so many bytes."""
+    try:
+        return any(n.startswith(".avarezhu-") and os.path.getsize(os.path.join(folder, n)) >= least for n in os.listdir(folder))
+    except FileNotFoundError:
+        return False
+
+
+def await_temporary(process, least=0):
+    """Waits until so much of the file is written, or the program has ended."""
+    while process.poll() is None and not is_written(least):
         pass
 
 
@@ -51,12 +61,12 @@ def look(process, number):
 
 
 def interrupts():
-    """Each signal while the temporary file is there."""
-    for number in caught:
+    """Each signal while the temporary file is there, and while there are two strips in it."""
+    for number, least in itertools.product(caught, [0, 2 * strip]):
         hits = 0
         for _ in range(40):
             process = start(draw)
-            await_temporary(process)
+            await_temporary(process, least)
             process.send_signal(number)
             hits += look(process, number)
             if hits == 3:
@@ -104,6 +114,19 @@ def closed_pipe():
     os.close(write)
 
 
+def closed_later():
+    """The reader leaves in the third strip, of a pipe and of a FIFO."""
+    fifo = os.path.join(folder, "fifo")
+    os.mkfifo(fifo)
+    for name, said_name in [("-", "standard output"), (fifo, fifo)]:
+        process = start([program, "draw", "--raw", "2048", "2048", name, text], stdout=subprocess.PIPE, stderr=subprocess.PIPE)
+        with process.stdout if name == "-" else open(fifo, "rb") as pipe:
+            assert len(pipe.read(2 * strip + 1)) == 2 * strip + 1
+        said = process.communicate()[1]
+        assert process.returncode == 3 and said == b"avarezhu: %s: Broken pipe\n" % said_name.encode(), (name, process.returncode, said)
+    os.remove(fifo)
+
+
 def pipe_that_does_not_wait():
     read, write = os.pipe()
     os.set_blocking(write, False)
@@ -119,6 +142,7 @@ interrupts()
 interrupts_at_any_time()
 ignored()
 closed_pipe()
+closed_later()
 pipe_that_does_not_wait()
 assert os.listdir(folder) == []
 print(runs)

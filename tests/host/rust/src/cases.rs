@@ -64,7 +64,7 @@ fn each_length(
             continue;
         }
         let Handed { first, second, area } = *handed;
-        compare.check(&Call { export, first, second, area, lent }, answer)?;
+        compare.check(&Call { export, first, second, area, rows: (0, area.1), lent }, answer)?;
     }
     Ok(())
 }
@@ -77,7 +77,7 @@ fn one_length(
     let choice = chance.below(16);
     let lent = lengths(chance, need)[choice.saturating_sub(12)];
     let Handed { first, second, area } = *handed;
-    compare.check(&Call { export, first, second, area, lent }, answer)
+    compare.check(&Call { export, first, second, area, rows: (0, area.1), lent }, answer)
 }
 
 fn judged(compare: &mut Compare, chance: &mut Chance, export: Export, handed: &Handed) -> Result<(), String> {
@@ -182,13 +182,13 @@ fn made_layouts(compare: &mut Compare, chance: &mut Chance, area: Area) -> Resul
 pub fn read_case(compare: &mut Compare, text: &[u8]) -> Result<(), String> {
     note(compare, text);
     let right = answer(Export::Read, text, &[], (1, 1));
-    let call = Call { export: Export::Read, first: text, second: &[], area: (1, 1), lent: 320 };
+    let call = Call { export: Export::Read, first: text, second: &[], area: (1, 1), rows: (0, 1), lent: 320 };
     compare.check(&call, &right)
 }
 
 /// Placing or drawing one text in one box, with a lent slice of the exact size.
 pub fn exact_case(compare: &mut Compare, export: Export, text: &[u8], area: Area) -> Result<(), String> {
     let right = answer(export, text, &[], area);
-    let call = Call { export, first: text, second: &[], area, lent: needed(export, area) };
+    let call = Call { export, first: text, second: &[], area, rows: (0, area.1), lent: needed(export, area) };
     compare.check(&call, &right)
 }

@@ -8,6 +8,8 @@ use crate::report::{difference, Found};
 const MARGIN: usize = 64;
 const PERIOD: usize = 251;
 const BLOCK: usize = PERIOD * 64;
+/// No more than this is watched around a lent slice that is too short for the whole answer.
+const AROUND: usize = 1 << 17;
 
 /// Bytes that stand after a text in memory: a reader that goes on past the end would find them.
 const TAILS: [&[u8]; 6] = [b")", b" )", b",red)", b"px)", b"0)", b"e,blue)"];
@@ -37,7 +39,7 @@ struct Lent {
 
 impl Compare {
     pub fn new(seed: u64) -> Compare {
-        let garbage = (0..BLOCK + PERIOD).map(|i| (i % PERIOD) as u8 + 1).collect();
+        let garbage = (0..BLOCK + 2 * PERIOD).map(|i| (i % PERIOD) as u8 + 1).collect();
         let place = Place { seed, part: "start", number: 0 };
         Compare { place, counts: Counts::new(), garbage, memory: Vec::new(), turn: 0 }
     }
@@ -67,6 +69,13 @@ impl Compare {
         Ok(())
     }
 
+    /// What a call leaves, whatever that is: its reply and the lent bytes.
+    pub fn left(&self, call: &Call) -> (u32, Vec<u8>) {
+        let mut out = vec![0xa5; call.lent];
+        let reply = make(call, call.first.as_ptr(), call.second.as_ptr(), out.as_mut_ptr());
+        (reply, out)
+    }
+
     /// A copy of a slice handed in, at a start that changes from call to call.
     fn held(&self, slice: &[u8]) -> Vec<u8> {
         let mut copy = self.garbage[..self.turn % 8].to_vec();
@@ -76,10 +85,10 @@ impl Compare {
         copy
     }
 
-    /// Fills the lent slice and its surroundings, which have room for a whole answer, with garbage.
+    /// Fills the lent slice and its surroundings with garbage.
     fn lend(&mut self, call: &Call) -> Lent {
         let sized = box_fits(call.area) || !call.export.draws();
-        let need = if sized { needed(call.export, call.area) } else { 0 };
+        let need = if sized { needed(call.export, call.area).min(AROUND) } else { 0 };
         let salt = self.turn % PERIOD;
         let from = MARGIN + self.turn % 16;
         let size = from + call.lent.max(need) + MARGIN;
@@ -97,18 +106,28 @@ impl Compare {
         if head != bytes {
             return first_different(bytes, head);
         }
+        if rest.iter().fold(0, |all, byte| all | byte) == 0 {
+            return None;
+        }
         let k = rest.iter().position(|byte| *byte != 0)?;
         Some((bytes.len() + k, 0, rest[k]))
     }
 
     /// A changed byte outside of the lent slice: its distance from the slice's start, expected, got.
     fn margin_difference(&self, lent: &Lent) -> Option<(isize, u8, u8)> {
-        let outside = (0..lent.from).chain(lent.to..self.memory.len());
-        for i in outside {
-            let (want, got) = (self.garbage[(i % PERIOD) + lent.salt], self.memory[i]);
-            if want != got {
-                return Some((i as isize - lent.from as isize, want, got));
+        self.spoiled(0, lent.from, lent).or_else(|| self.spoiled(lent.to, self.memory.len(), lent))
+    }
+
+    /// The first byte from `at` up to `to` that is not as it was filled.
+    fn spoiled(&self, mut at: usize, to: usize, lent: &Lent) -> Option<(isize, u8, u8)> {
+        while at < to {
+            let length = (to - at).min(BLOCK);
+            let from = at % PERIOD + lent.salt;
+            let want = &self.garbage[from..from + length];
+            if let Some((k, want, got)) = first_different(want, &self.memory[at..at + length]) {
+                return Some(((at + k) as isize - lent.from as isize, want, got));
             }
+            at += length;
         }
         None
     }

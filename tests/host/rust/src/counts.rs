@@ -4,6 +4,7 @@ use std::collections::BTreeMap;
 
 use crate::expected::needed;
 use crate::library::{Call, Export, EXPORTS};
+use crate::strip_counts::StripCounts;
 
 const CLAUSES: [&str; 46] = [
     "no direction", "side", "corner, horizontal word first", "corner, vertical word first",
@@ -20,8 +21,12 @@ const CLAUSES: [&str; 46] = [
     "file, a byte too little lent", "file, as much lent as it needs", "file, more lent than it needs",
 ];
 
+/// No call replies with 7.
+const REPLIES: [usize; 8] = [0, 1, 2, 3, 4, 5, 6, 8];
+
 pub struct Counts {
-    replies: [[u64; 7]; 7],
+    replies: [[u64; 9]; EXPORTS.len()],
+    pub strips: StripCounts,
     pixels: u64,
     pub texts: u64,
     clauses: BTreeMap<&'static str, u64>,
@@ -32,6 +37,8 @@ fn replies_of(export: Export) -> &'static [usize] {
     match export {
         Export::Read => &[0, 2, 3, 4, 5, 6],
         Export::Place | Export::Draw | Export::Png => &[0, 1, 2, 3, 4, 5, 6],
+        Export::DrawRows => &[0, 1, 2, 3, 4, 5, 6, 8],
+        Export::DrawGradientRows => &[0, 1, 2, 4, 5, 6, 8],
         _ => &[0, 1, 2, 4, 5, 6],
     }
 }
@@ -39,16 +46,20 @@ fn replies_of(export: Export) -> &'static [usize] {
 impl Counts {
     pub fn new() -> Counts {
         let clauses = CLAUSES.iter().map(|name| (*name, 0)).collect();
-        Counts { replies: [[0; 7]; 7], pixels: 0, texts: 0, clauses, bytes: [false; 256] }
+        let strips = StripCounts::new();
+        Counts { replies: [[0; 9]; EXPORTS.len()], strips, pixels: 0, texts: 0, clauses, bytes: [false; 256] }
     }
 
     pub fn call(&mut self, call: &Call, reply: u32) {
         self.replies[call.export as usize][reply as usize] += 1;
         if reply == 0 && call.export.draws() {
-            self.pixels += (call.area.0 * call.area.1) as u64;
+            self.pixels += (call.area.0 * (call.rows.1 - call.rows.0)) as u64;
         }
-        if reply == 0 && call.export.draws() && call.area == (2048, 2048) {
+        if reply == 0 && call.export.draws() && call.area == (2048, 2048) && call.rows == (0, 2048) {
             self.clause("whole picture of 2,048 by 2,048");
+        }
+        if call.export.draws_rows() {
+            self.strips.call(call, reply);
         }
         if call.export == Export::Png {
             self.file(call, reply);
@@ -89,16 +100,17 @@ impl Counts {
         if self.bytes.iter().all(|seen| *seen) {
             self.clauses.insert("every byte from 0 to 255", 1);
         }
-        println!("{:<24}{}", "reply", (0..7).map(|r| format!("{r:>10}")).collect::<String>());
+        println!("{:<28}{}", "reply", REPLIES.map(|r| format!("{r:>9}")).concat());
         for export in EXPORTS {
             let row = self.replies[export as usize];
-            println!("{:<24}{}", export.name(), row.map(|n| format!("{n:>10}")).concat());
+            println!("{:<28}{}", export.name(), REPLIES.map(|r| format!("{:>9}", row[r])).concat());
         }
         println!("{} texts, {} pixels compared", self.texts, self.pixels);
         println!("accepted texts, by clause:");
         for name in CLAUSES {
             println!("  {:<40}{:>9}", name, self.clauses[name]);
         }
+        self.strips.print();
     }
 
     /// The replies and clauses that the run should have reached and has not.
@@ -113,6 +125,7 @@ impl Counts {
         }
         let clauses = CLAUSES.iter().filter(|name| self.clauses[**name] == 0);
         list.extend(clauses.map(|name| name.to_string()));
+        list.extend(self.strips.missing());
         list
     }
 }

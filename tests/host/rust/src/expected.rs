@@ -3,8 +3,8 @@
 use crate::gradient::Gradient;
 use crate::grid::{Grid, LONGEST_SIDE};
 use crate::layout::{gradient_bytes, stops_bytes, take_gradient, take_stops, GRADIENT_BYTES, STOPS_BYTES};
-use crate::library::{Call, Export};
-use crate::pixels::picture;
+use crate::library::{Call, Export, Rows};
+use crate::pixels::{picture, rows_of};
 use crate::placing::{place, Placed};
 use crate::png;
 use crate::reading::read;
@@ -25,13 +25,26 @@ fn judge_box(area: (usize, usize)) -> Result<(), u32> {
     }
 }
 
-/// The size that the lent slice must have; for pictures only in a box that fits.
+/// Whether there is a row to draw, and each is in the picture.
+pub fn rows_fit((first, end): Rows, height: usize) -> bool {
+    first < end && end <= height
+}
+
+/// The size that the lent slice must have for all of the answer; for pictures only in a box that fits.
 pub fn needed(export: Export, area: (usize, usize)) -> usize {
     match export {
         Export::Read => GRADIENT_BYTES,
         Export::Place | Export::PlaceGradient => STOPS_BYTES,
         Export::Png => 63 + (6 + 3 * area.0) * area.1,
         _ => 4 * area.0 * area.1,
+    }
+}
+
+/// The size that the lent slice of a call must have; for strips only with rows that fit.
+pub fn room(call: &Call) -> usize {
+    match call.export.draws_rows() {
+        true => 4 * call.area.0 * (call.rows.1 - call.rows.0),
+        false => needed(call.export, call.area),
     }
 }
 
@@ -73,11 +86,24 @@ fn drawn_stops(first: &[u8], second: &[u8], area: (usize, usize)) -> Answer {
     }
 }
 
+/// The rows that an export for strips should draw.
+pub fn strip(export: Export, first: &[u8], area: (usize, usize), rows: Rows) -> Answer {
+    judge_box(area)?;
+    if !rows_fit(rows, area.1) {
+        return Err(8);
+    }
+    let gradient = match export.takes_text() {
+        true => read(first)?.gradient,
+        false => take_gradient(first)?,
+    };
+    Ok(rows_of(&Grid::new(&gradient.shape, area), &place(&gradient, area), rows))
+}
+
 /// The reply with this much lent, and the bytes that come before the zeros.
 pub fn settle<'a>(call: &Call, answer: &'a Answer) -> (u32, &'a [u8]) {
     match answer {
-        Err(1) => (1, &[]),
-        _ if call.lent < needed(call.export, call.area) => (2, &[]),
+        Err(reply @ (1 | 8)) => (*reply, &[]),
+        _ if call.lent < room(call) => (2, &[]),
         Ok(bytes) => (0, bytes),
         Err(reply) => (*reply, &[]),
     }

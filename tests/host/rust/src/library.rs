@@ -1,4 +1,4 @@
-//! The seven exports of the archive.
+//! The nine exports of the archive.
 
 #[derive(Clone, Copy, PartialEq, Debug)]
 pub enum Export {
@@ -7,16 +7,20 @@ pub enum Export {
     PlaceGradient,
     Draw,
     DrawGradient,
+    DrawRows,
+    DrawGradientRows,
     DrawStops,
     Png,
 }
 
-pub const EXPORTS: [Export; 7] = [
+pub const EXPORTS: [Export; 9] = [
     Export::Read,
     Export::Place,
     Export::PlaceGradient,
     Export::Draw,
     Export::DrawGradient,
+    Export::DrawRows,
+    Export::DrawGradientRows,
     Export::DrawStops,
     Export::Png,
 ];
@@ -29,18 +33,24 @@ impl Export {
             Export::PlaceGradient => "avarezhu_place_gradient",
             Export::Draw => "avarezhu_draw",
             Export::DrawGradient => "avarezhu_draw_gradient",
+            Export::DrawRows => "avarezhu_draw_rows",
+            Export::DrawGradientRows => "avarezhu_draw_gradient_rows",
             Export::DrawStops => "avarezhu_draw_stops",
             Export::Png => "avarezhu_png",
         }
     }
 
     pub fn takes_text(self) -> bool {
-        matches!(self, Export::Read | Export::Place | Export::Draw | Export::Png)
+        matches!(self, Export::Read | Export::Place | Export::Draw | Export::DrawRows | Export::Png)
     }
 
-    /// Whether the answer is a picture, as bytes or as a file.
+    /// Whether the answer is a picture, whole or a strip of it, as bytes or as a file.
     pub fn draws(self) -> bool {
-        matches!(self, Export::Draw | Export::DrawGradient | Export::DrawStops | Export::Png)
+        !matches!(self, Export::Read | Export::Place | Export::PlaceGradient)
+    }
+
+    pub fn draws_rows(self) -> bool {
+        matches!(self, Export::DrawRows | Export::DrawGradientRows)
     }
 }
 
@@ -58,6 +68,14 @@ extern "C" {
     fn avarezhu_draw_gradient(
         gradient: *const u8, gradient_len: usize, width: usize, height: usize, pixels: *mut u8, pixels_len: usize,
     ) -> u32;
+    fn avarezhu_draw_rows(
+        text: *const u8, text_len: usize, width: usize, height: usize, first: usize, end: usize,
+        pixels: *mut u8, pixels_len: usize,
+    ) -> u32;
+    fn avarezhu_draw_gradient_rows(
+        gradient: *const u8, gradient_len: usize, width: usize, height: usize, first: usize, end: usize,
+        pixels: *mut u8, pixels_len: usize,
+    ) -> u32;
     fn avarezhu_draw_stops(
         gradient: *const u8, gradient_len: usize, stops: *const u8, stops_len: usize,
         width: usize, height: usize, pixels: *mut u8, pixels_len: usize,
@@ -67,12 +85,17 @@ extern "C" {
     ) -> u32;
 }
 
-/// What one call is handed. `second` is for draw_stops alone, `area` is not for read.
+/// Rows from the first number up to, not including, the second.
+pub type Rows = (usize, usize);
+
+/// What one call is handed. `second` is for draw_stops alone, `area` is not for read, and `rows` is for the two exports
+/// that draw strips; for the others it is all rows.
 pub struct Call<'a> {
     pub export: Export,
     pub first: &'a [u8],
     pub second: &'a [u8],
     pub area: (usize, usize),
+    pub rows: Rows,
     pub lent: usize,
 }
 
@@ -87,6 +110,10 @@ pub fn make(call: &Call, first: *const u8, second: *const u8, out: *mut u8) -> u
             Export::PlaceGradient => avarezhu_place_gradient(first, len, width, height, out, lent),
             Export::Draw => avarezhu_draw(first, len, width, height, out, lent),
             Export::DrawGradient => avarezhu_draw_gradient(first, len, width, height, out, lent),
+            Export::DrawRows => avarezhu_draw_rows(first, len, width, height, call.rows.0, call.rows.1, out, lent),
+            Export::DrawGradientRows => {
+                avarezhu_draw_gradient_rows(first, len, width, height, call.rows.0, call.rows.1, out, lent)
+            }
             Export::DrawStops => {
                 avarezhu_draw_stops(first, len, second, call.second.len(), width, height, out, lent)
             }

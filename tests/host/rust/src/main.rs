@@ -19,6 +19,8 @@ mod reading;
 mod report;
 mod sines;
 mod spelling;
+mod strip_counts;
+mod strips;
 mod sweeps;
 mod texts;
 mod words;
@@ -34,7 +36,7 @@ const HELP: &str = "host [--seed N] [--texts N] [--case N]
   --seed N   start of the random numbers (20240229)
   --texts N  number of random texts (200000)
   --case N   run random text N of the seed alone
-The status is 0 if the library agrees everywhere and every reply and clause was reached.";
+The status is 0 if the library agrees everywhere and every reply, clause and pair of refusals was reached.";
 
 struct Options {
     seed: u64,
@@ -67,7 +69,8 @@ fn random_text(compare: &mut Compare, case: u64) -> Result<(), String> {
     let mut chance = Chance::new(compare.place.seed, case);
     let text = damage::text(&mut chance);
     let area = some_box(&mut chance);
-    text_case(compare, &mut chance, &text, area)
+    text_case(compare, &mut chance, &text, area)?;
+    strips::text_case(compare, &mut chance, &text, area)
 }
 
 fn run(options: &Options) -> Result<(), String> {
@@ -79,6 +82,8 @@ fn run(options: &Options) -> Result<(), String> {
     worked::library(&mut compare)?;
     compare.place.number = 0;
     sweeps::all(&mut compare)?;
+    strips::refusals(&mut compare)?;
+    strips::large(&mut compare)?;
     for case in 1..=options.texts {
         random_text(&mut compare, case)?;
     }

@@ -1,10 +1,12 @@
 //! Pictures of the greatest box.
 
+use crate::chance::Chance;
 use crate::compare::Compare;
 use crate::expected::{answer, needed};
 use crate::layout::gradient_bytes;
 use crate::library::{Call, Export};
 use crate::reading::read;
+use crate::strips;
 
 const FULL: (usize, usize) = (2048, 2048);
 
@@ -49,5 +51,10 @@ fn picture(
     let first = if export.takes_text() { text } else { &bytes };
     let right = answer(export, first, &stops, area);
     let lent = needed(export, area) + more;
-    compare.check(&Call { export, first, second: &stops, area, lent }, &right)
+    compare.check(&Call { export, first, second: &stops, area, rows: (0, area.1), lent }, &right)?;
+    if !matches!(export, Export::Draw | Export::DrawGradient) {
+        return Ok(());
+    }
+    let mut chance = Chance::new(compare.place.seed, compare.place.number);
+    strips::cut(compare, &mut chance, export, first, area)
 }

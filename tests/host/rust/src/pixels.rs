@@ -31,15 +31,21 @@ fn color_at(marks: &[Mark], s: i64) -> [u8; 4] {
     std::array::from_fn(|c| nearest(a.color[c] * (b.at - s) + b.color[c] * (s - a.at), bottom))
 }
 
-/// All rows from the top. The stops' places never fall, so those passed are the first ones.
-pub fn picture(grid: &Grid, stops: &[Placed]) -> Vec<u8> {
+/// The rows from `first` up to `end`, counted from the top. The stops' places never fall, so those passed are the first
+/// ones.
+pub fn rows_of(grid: &Grid, stops: &[Placed], (first, end): (usize, usize)) -> Vec<u8> {
     let marks: Vec<Mark> =
         stops.iter().map(|stop| Mark { at: stop.at, color: premultiplied(stop.color) }).collect();
-    let mut bytes = Vec::with_capacity((4 * grid.width * grid.height) as usize);
-    for j in 0..grid.height {
+    let mut bytes = Vec::with_capacity(4 * grid.width as usize * (end - first));
+    for j in first as i64..end as i64 {
         for i in 0..grid.width {
             bytes.extend_from_slice(&color_at(&marks, grid.location(i, j)));
         }
     }
     bytes
+}
+
+/// All rows.
+pub fn picture(grid: &Grid, stops: &[Placed]) -> Vec<u8> {
+    rows_of(grid, stops, (0, grid.height as usize))
 }

@@ -43,6 +43,9 @@ fn inputs(call: &Call) -> String {
     if call.export != Export::Read {
         let _ = writeln!(lines, "  box: {} x {}", call.area.0, call.area.1);
     }
+    if call.export.draws_rows() {
+        let _ = writeln!(lines, "  rows: {} up to {}", call.rows.0, call.rows.1);
+    }
     let _ = writeln!(lines, "  lent: {} bytes", call.lent);
     lines
 }

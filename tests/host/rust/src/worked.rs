@@ -11,6 +11,7 @@ use crate::library::{Call, Export};
 use crate::png::{adler, crc, file};
 use crate::reading::read;
 use crate::sines::table_is_sound;
+use crate::strips;
 
 const GRAYS: [u8; 16] = [32, 32, 32, 255, 96, 96, 96, 255, 159, 159, 159, 255, 223, 223, 223, 255];
 
@@ -102,7 +103,7 @@ pub fn model() -> Result<(), String> {
     }
     for (text, area, lent, reply) in replies() {
         let right = answer(Export::Draw, text.as_bytes(), &[], area);
-        let call = Call { export: Export::Draw, first: text.as_bytes(), second: &[], area, lent };
+        let call = Call { export: Export::Draw, first: text.as_bytes(), second: &[], area, rows: (0, area.1), lent };
         same(&text, reply, settle(&call, &right).0)?;
     }
     corner()
@@ -128,6 +129,7 @@ pub fn library(compare: &mut Compare) -> Result<(), String> {
         compare.place.number = k as u64 + 1;
         let mut chance = Chance::new(compare.place.seed, k as u64);
         text_case(compare, &mut chance, text.as_bytes(), area)?;
+        strips::text_case(compare, &mut chance, text.as_bytes(), area)?;
     }
     Ok(())
 }
