@@ -39,7 +39,7 @@ badRows = 8
 abbrev pub given : Bool → ℕ → ℕ
 given applies number = cond applies number done
 
--- the first reply, or the second where the first is 0; rows are joined from the lowest number up
+-- the first reply, or the second where the first is 0; rows are joined in the order in which they are judged: from the lowest number up, 8 after 1
 infixr 40 _orElse_
 abbrev pub _orElse_ : ℕ → ℕ → ℕ
 zero orElse b = b
