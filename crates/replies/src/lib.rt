@@ -10,7 +10,7 @@ pub const DONE: u32 = 0;
 // Width or height outside 1 to 2,048.
 pub const BAD_BOX: u32 = 1;
 
-// Buffer shorter than 4·W·H bytes, or lent slice shorter than the size of its layout.
+// Buffer shorter than 4·W bytes for each row to be drawn, or lent slice shorter than the size of its layout.
 pub const NO_ROOM: u32 = 2;
 
 // Text longer than 1,024 bytes.

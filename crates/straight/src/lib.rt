@@ -15,11 +15,12 @@ ghost use Rattle.line.specs.Box.{Box};
 ghost use Rattle.line.specs.Represented.{Bounded, ruleIn};
 ghost use Rattle.line.specs.declared.SignedVector.{SignedVector};
 ghost use Rattle.picture.specs.Picture.{row, part, strip, patched};
-ghost use Rattle.ramp.specs.Ramp.{Entries, Ramp};
+ghost use Rattle.table.specs.Table.{entryOf, Stretched, Leaps};
+ghost use Rattle.ramp.specs.Ramp.{colorIn, Entries, Ramp, Held};
 ghost use Rattle.rows.specs.Pixel.{Rows, pixelBy, rampPixel, stripOf};
 ghost use Rattle.fixed.specs.Steps.{Steady, AlongRow};
 ghost use Rattle.straight.specs.Certain.{AllCertain};
-ghost use Rattle.straight.specs.Begun.{Begun};
+ghost use Rattle.straight.specs.Begun.{Continued};
 ghost use Rattle.straight.specs.Shift.{Straight, Copies, Stands, Next, Shifted};
 
 // The columns of a tile. A tile is so small that the first cache holds the entries that it needs.
@@ -30,9 +31,21 @@ const TILE_ROWS: usize = 16;
 
 // ---- n pixels of row j, from pixel i on
 
+// The color at the location s, by the stretch t where it has that.
+fn color_near(ramp: &[u32], t: Stretch, s: u64) -> u32
+    requires { ⌜ Ramp (now ramp) × Held (now ramp) t × (s < 4294967296) ⌝ }
+    ensures { λ c. ⌜ c ≡ colorIn (now (ramp .entry)) s ⌝ }
+{
+    if table::is_in(t, s) {
+        return table::color_in(t, (s - t.first) as u32);
+    }
+    ramp::color(ramp, s)
+}
+
 // Finds the location of each pixel, from its place or by the exact rule.
 fn draw_by_locations(
     ramp: &[u32],
+    t: Stretch,
     r: RowLine,
     v: SignedVector,
     z: Strip,
@@ -42,35 +55,73 @@ fn draw_by_locations(
     at: usize,
     buf: &mut [u8],
 )
-    requires { ⌜ Ramp (now ramp) × AlongRow r v (z .w) (z .h) j × (i + n ≤ z .w) × (at + 4 * n ≤ length (now buf)) ⌝ }
+    requires { ⌜ Ramp (now ramp) × Held (now ramp) t × AlongRow r v (z .w) (z .h) j × (i + n ≤ z .w) × (at + 4 * n ≤ length (now buf)) ⌝ }
     ensures { λ _. ⌜ now (buf .exit) ≡ patched (now (buf .entry)) at (part (rampPixel (now (ramp .entry)) (Line.Straight v) (z .w) (z .h)) i n j) ⌝ }
 {
     let mut k = 0;
     let mut o = at;
     while k < n {
         let s = fixed::locate(r, v, z.w, z.h, i + k, j);
-        let c = ramp::color(ramp, s as u64);
+        let c = color_near(ramp, t, s as u64);
         words::put_word(buf, o, c);
         o += 4;
         k += 1;
     }
 }
 
-// How many pixels to draw location by location before those of a stretch: a part where it has no locations.
-fn pixels_before(t: Stretch, n: usize) -> usize
+// How many pixels to draw next, from one at the location s on: about as many as are left in the stretch, and a tile's columns at most.
+fn piece(t: Stretch, r: RowLine, s: u64, n: usize) -> usize
     requires { ⌜ 0 < n ⌝ }
-    ensures { λ r. ⌜ (0 < r) × (r ≤ n) ⌝ }
+    ensures { λ m. ⌜ (0 < m) × (m ≤ n) ⌝ }
 {
-    if t.count == 0 {
-        picture::at_most(TILE_COLUMNS, n)
+    let most = picture::at_most(TILE_COLUMNS, n);
+    if !table::is_in(t, s) {
+        return most;
+    }
+    let past = s - t.first;
+    let left = if r.forth == 0 {
+        past
     } else {
-        1
+        t.count - 1 - past
+    };
+    let step = if r.forth == 0 { r.back } else { r.forth };
+    let m = (left / (step / fixed::ONE + 1)) as usize;
+    if m < most { m + 1 } else { most }
+}
+
+// The stretch t where it has the location s, else the one that s is in.
+fn renewed(ramp: &[u32], t: Stretch, s: u64) -> Stretch
+    requires { ⌜ Ramp (now ramp) × Held (now ramp) t ⌝ }
+    ensures { λ u. ⌜ Held (now (ramp .entry)) u ⌝ }
+{
+    if table::is_in(t, s) {
+        return t;
+    }
+    ramp::stretch_at(ramp, s)
+}
+
+// Leaps to the whole part of each pixel's place by the walks of a stretch that has all of them.
+fn draw_from_stretch(t: Stretch, r: RowLine, i: usize, n: usize, at: usize, buf: &mut [u8])
+    requires { ⌜ (0 < n) × AllCertain r i n (t .first) (t .count) × Leaps t × (at + 4 * n ≤ length (now buf)) ⌝ }
+    ensures { λ _. ⌜ ((ps vs : List ℕ) (v : SignedVector) (w h j : ℕ) → Stretched ps vs t → AlongRow r v w h j → i + n ≤ w
+        → now (buf .exit) ≡ patched (now (buf .entry)) at (part (pixelBy (ruleIn (Line.Straight v) w h) (entryOf ps vs)) i n j)) ⌝ }
+{
+    let step = fixed::step(r);
+    let mut e = fixed::place(r, i) - t.first * fixed::ONE;
+    let mut k = 0;
+    let mut o = at;
+    while k < n {
+        words::put_word(buf, o, table::color_in(t, (e / fixed::ONE) as u32));
+        e = std::num::wrapping_add_u64(e, step);
+        o += 4;
+        k += 1;
     }
 }
 
-// Draws pixels up to the end of a stretch: the first location by location, the others by the walks of the stretch. Says how many.
-fn draw_stretch(
+// By the stretch where it has all the pixels, else location by location.
+fn draw_piece(
     ramp: &[u32],
+    t: Stretch,
     r: RowLine,
     v: SignedVector,
     z: Strip,
@@ -79,28 +130,18 @@ fn draw_stretch(
     n: usize,
     at: usize,
     buf: &mut [u8],
-) -> usize
-    requires { ⌜ Ramp (now ramp) × AlongRow r v (z .w) (z .h) j × (0 < n) × (i + n ≤ z .w) × (at + 4 * n ≤ length (now buf)) ⌝ }
-    ensures { λ m. ⌜ (0 < m) × (m ≤ n) × (now (buf .exit) ≡ patched (now (buf .entry)) at (part (rampPixel (now (ramp .entry)) (Line.Straight v) (z .w) (z .h)) i m j)) ⌝ }
+)
+    requires { ⌜ Ramp (now ramp) × Held (now ramp) t × AlongRow r v (z .w) (z .h) j × (0 < n) × (i + n ≤ z .w) × (at + 4 * n ≤ length (now buf)) ⌝ }
+    ensures { λ _. ⌜ now (buf .exit) ≡ patched (now (buf .entry)) at (part (rampPixel (now (ramp .entry)) (Line.Straight v) (z .w) (z .h)) i n j) ⌝ }
 {
-    let t = ramp::stretch_at(ramp, fixed::location(r, v, z.w, z.h, i, j));
-    let m = pixels_before(t, n);
-    draw_by_locations(ramp, r, v, z, j, i, m, at, buf);
-    let mut k = m;
-    let mut o = at + 4 * m;
-    while k < n {
-        let q = fixed::location(r, v, z.w, z.h, i + k, j);
-        if !table::is_in(t, q) {
-            return k;
-        }
-        words::put_word(buf, o, table::color_in(t, q));
-        o += 4;
-        k += 1;
+    if fixed::floors_certain(r, i, n, t.first as u32, t.count as usize) {
+        draw_from_stretch(t, r, i, n, at, buf);
+    } else {
+        draw_by_locations(ramp, t, r, v, z, j, i, n, at, buf);
     }
-    k
 }
 
-// Draws a stretch at a time.
+// Draws a piece of a stretch at a time.
 fn draw_by_stretches(
     ramp: &[u32],
     r: RowLine,
@@ -115,9 +156,14 @@ fn draw_by_stretches(
     requires { ⌜ Ramp (now ramp) × AlongRow r v (z .w) (z .h) j × (i + n ≤ z .w) × (at + 4 * n ≤ length (now buf)) ⌝ }
     ensures { λ _. ⌜ now (buf .exit) ≡ patched (now (buf .entry)) at (part (rampPixel (now (ramp .entry)) (Line.Straight v) (z .w) (z .h)) i n j) ⌝ }
 {
+    let mut t = table::no_stretch();
     let mut k = 0;
     while k < n {
-        k += draw_stretch(ramp, r, v, z, j, i + k, n - k, at + 4 * k, buf);
+        let s = fixed::location(r, v, z.w, z.h, i + k, j);
+        t = renewed(ramp, t, s);
+        let m = piece(t, r, s, n - k);
+        draw_piece(ramp, t, r, v, z, j, i + k, m, at + 4 * k, buf);
+        k += m;
     }
 }
 
@@ -162,7 +208,7 @@ fn draw_part(
     if fixed::floors_certain(r, i, n, base, t.len()) {
         draw_from_table(t, base, r, i, n, at, buf);
     } else {
-        draw_by_locations(ramp, r, v, z, j, i, n, at, buf);
+        draw_by_locations(ramp, table::no_stretch(), r, v, z, j, i, n, at, buf);
     }
 }
 
@@ -180,8 +226,7 @@ fn draw_columns(
     buf: &mut [u8],
 )
     requires { ⌜ Ramp (now ramp) × Box (z .w) (z .h) × Steady steps v × (z .a ≤ z .b) × (z .b ≤ z .h) × (at + 4 * z .w * (z .b - z .a) ≤ length (now buf)) × (i + n ≤ z .w) ⌝ }
-    ensures { λ _. ⌜ ((d : List ℕ) → length d ≡ length (now (buf .entry)) → Begun (rampPixel (now (ramp .entry)) (Line.Straight v) (z .w) (z .h)) (z .w) (z .a) (z .b) i d at (now (buf .entry))
-        → Begun (rampPixel (now (ramp .entry)) (Line.Straight v) (z .w) (z .h)) (z .w) (z .a) (z .b) (i + n) d at (now (buf .exit))) ⌝ }
+    ensures { λ _. ⌜ Continued (rampPixel (now (ramp .entry)) (Line.Straight v) (z .w) (z .h)) (z .w) (z .a) (z .b) i (i + n) at (now (buf .entry)) (now (buf .exit)) ⌝ }
 {
     let m = 4 * z.w;
     let mut j = z.a;
@@ -195,7 +240,7 @@ fn draw_columns(
 }
 
 // Draws the columns from `from` up to `end` of a strip whose rows start at `at`, a tile's columns at a time.
-pub fn draw_band(
+fn draw_band(
     ramp: &[u32],
     steps: Steps,
     v: SignedVector,
@@ -206,8 +251,7 @@ pub fn draw_band(
     buf: &mut [u8],
 )
     requires { ⌜ Ramp (now ramp) × Box (z .w) (z .h) × Steady steps v × (z .a ≤ z .b) × (z .b ≤ z .h) × (at + 4 * z .w * (z .b - z .a) ≤ length (now buf)) × (from ≤ end) × (end ≤ z .w) ⌝ }
-    ensures { λ _. ⌜ ((d : List ℕ) → length d ≡ length (now (buf .entry)) → Begun (rampPixel (now (ramp .entry)) (Line.Straight v) (z .w) (z .h)) (z .w) (z .a) (z .b) from d at (now (buf .entry))
-        → Begun (rampPixel (now (ramp .entry)) (Line.Straight v) (z .w) (z .h)) (z .w) (z .a) (z .b) end d at (now (buf .exit))) ⌝ }
+    ensures { λ _. ⌜ Continued (rampPixel (now (ramp .entry)) (Line.Straight v) (z .w) (z .h)) (z .w) (z .a) (z .b) from end at (now (buf .entry)) (now (buf .exit)) ⌝ }
 {
     let mut i = from;
     while i < end {
@@ -217,25 +261,33 @@ pub fn draw_band(
     }
 }
 
-// Draws a strip from the buffer's start, a tile's rows at a time.
-fn draw_tiles(ramp: &[u32], steps: Steps, v: SignedVector, z: Strip, buf: &mut [u8])
-    requires { ⌜ Ramp (now ramp) × Box (z .w) (z .h) × Steady steps v × Rows z (length (now buf)) ⌝ }
-    ensures { λ _. ⌜ now (buf .exit) ≡ patched (now (buf .entry)) 0 (stripOf (now (ramp .entry)) (Line.Straight v) z) ⌝ }
+// The same, a tile's rows at a time.
+pub fn draw_tiles(
+    ramp: &[u32],
+    steps: Steps,
+    v: SignedVector,
+    z: Strip,
+    from: usize,
+    end: usize,
+    at: usize,
+    buf: &mut [u8],
+)
+    requires { ⌜ Ramp (now ramp) × Box (z .w) (z .h) × Steady steps v × (z .a ≤ z .b) × (z .b ≤ z .h) × (at + 4 * z .w * (z .b - z .a) ≤ length (now buf)) × (from ≤ end) × (end ≤ z .w) ⌝ }
+    ensures { λ _. ⌜ Continued (rampPixel (now (ramp .entry)) (Line.Straight v) (z .w) (z .h)) (z .w) (z .a) (z .b) from end at (now (buf .entry)) (now (buf .exit)) ⌝ }
 {
     let mut j = z.a;
-    let mut o = 0;
+    let mut o = at;
     while j < z.b {
         let n = picture::at_most(TILE_ROWS, z.b - j);
-        let end = j + n;
         let band = Strip {
             w: z.w,
             h: z.h,
             a: j,
-            b: end,
+            b: j + n,
         };
-        draw_band(ramp, steps, v, band, 0, z.w, o, buf);
+        draw_band(ramp, steps, v, band, from, end, o, buf);
         o += 4 * z.w * n;
-        j = end;
+        j += n;
     }
 }
 
@@ -263,7 +315,7 @@ fn draw_new(ramp: &[u32], steps: Steps, v: SignedVector, z: Strip, buf: &mut [u8
     if ramp::table_of(ramp).len() == 0 {
         draw_rows(ramp, steps, v, z, buf);
     } else {
-        draw_tiles(ramp, steps, v, z, buf);
+        draw_tiles(ramp, steps, v, z, 0, z.w, 0, buf);
     }
 }
 

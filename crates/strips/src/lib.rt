@@ -132,7 +132,7 @@ fn draw_sections(ramp: &mut [u32], stops: &[u32], v: SignedVector, z: Strip, buf
     while i < z.w {
         let end = i + picture::at_most(SECTION, z.w - i);
         ramp::set_table(ramp, stops, base_of(straight::first(v, z, i, end)));
-        straight::draw_band(ramp, steps, v, z, i, end, 0, buf);
+        straight::draw_tiles(ramp, steps, v, z, i, end, 0, buf);
         i = end;
     }
 }

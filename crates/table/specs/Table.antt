@@ -6,11 +6,12 @@ use Prim.Native.Nat.{ℕ, _+_, _-_, _*_, _≤_, _<_}
 use lib.IntN.{pos}
 use lib.ListN.{length, getD}
 use Rattle.numbers.specs.Biased.{bias}
+use Rattle.color.specs.Stop.{Channel}
 use Rattle.color.specs.Byte.{colorAt}
 use Rattle.color.specs.Lent.{stopsOf}
 use Rattle.color.specs.declared.Rgba.{Rgba}
-use Rattle.walk.specs.Walk.{mostSteps}
-use Rattle.walk.specs.Channels.{Going, mixOf}
+use Rattle.walk.specs.Walk.{mostSteps, Fits}
+use Rattle.walk.specs.Channels.{walkOf, Going, mixOf}
 use Rattle.walk.specs.declared.Channels.{Channels}
 use Rattle.table.specs.declared.Stretch.{Stretch}
 
@@ -77,14 +78,29 @@ pub record Within (ps : List ℕ) (i : ℕ) : Type 0 where
   pub near : location < 16777216
   pub splits : Splits ps (bias + location) (i + 1)
 
--- a stretch lies between two stops, and its walks are at its first location
+-- before the first position, or from the last one on: k positions, none or all, are at or below the biased location `first`, and stop i has the color
+pub record Flat (ps : List ℕ) (i first k : ℕ) : Type 0 where
+  pub low : bias ≤ first
+  pub near : first < bias + 16777216
+  pub splits : Splits ps first k
+  pub outside : 0 < k → k ≡ length ps
+  pub stop : i ≡ k - 1
+
+-- all locations of a stretch have the same stops around them, and its walks, which go by `values`, are at the first location
 pub record Stretched (ps vs : List ℕ) (t : Stretch) : Type 0 where
+  pub values : List ℕ
   pub place : ℕ
   pub gap : ℕ
   pub start : ℕ
+  pub range : t .first + t .count ≤ bias
   pub spans : Spans gap 1 start 0 (t .count)
-  pub reached : 0 < t .count → Reached vs place gap 1 start 0 0 (t .walks)
-  pub colors : (k : ℕ) → k < t .count → walkedAt vs place gap 1 start 0 k ≡ entryAt ps vs (t .first) 1 k
+  pub reached : 0 < t .count → Reached values place gap 1 start 0 0 (t .walks)
+  pub colors : (k : ℕ) → k < t .count → walkedAt values place gap 1 start 0 k ≡ entryAt ps vs (t .first) 1 k
+
+-- the walks of a stretch can be leapt to each of its locations, as many as walks are right for
+pub record Leaps (t : Stretch) : Type 0 where
+  pub few : t .count < mostSteps
+  pub fits : (n : ℕ) → n < t .count → (c : Channel) → Fits n (walkOf (t .walks) c)
 
 -- the entries from a up to b are f's numbers, and those before a are as they were
 pub record Stored (f : ℕ → ℕ) (a b : ℕ) (t t′ : List ℕ) : Type 0 where

@@ -14,7 +14,7 @@ ghost use Rattle.color.specs.Lent.{Lent, Small, lastUpTo};
 ghost use Rattle.numbers.specs.Biased.{bias};
 ghost use Rattle.walk.specs.Walk.{mostSteps, Gap, Fits};
 ghost use Rattle.walk.specs.Channels.{walkOf, Paced};
-ghost use Rattle.table.specs.Table.{packed, locationLimit, entryOf, entryAt, Spaced, walkedAt, Reached, Spans, Stored, Splits, Ends, Run, Within, Stretched};
+ghost use Rattle.table.specs.Table.{packed, locationLimit, entryOf, entryAt, Spaced, walkedAt, Reached, Spans, Stored, Splits, Ends, Run, Within, Flat, Stretched, Leaps};
 
 // From this many units on, a gap is too long for walks.
 const LONG_GAP: u32 = 16777216;
@@ -70,48 +70,7 @@ fn fill_steps(t: &mut [u32], at: usize, end: usize, start: Channels)
     }
 }
 
-// Stores the next 16 colors of the walks, and takes the walks past them. If the first and the last are the same, so are those between.
-fn fill_block(t: &mut [u32], at: usize, w: Channels) -> Channels
-    requires { ⌜ (at + 16 ≤ length (now t)) × ((c : Channel) → Fits 15 (walkOf w c)) ⌝ }
-    ensures { λ r. ⌜ ((vs : List ℕ) (i g s x a : ℕ) → a ≤ at → Spans g s x a (at + 16) → Reached vs i g s x a at w
-        → Stored (walkedAt vs i g s x a) at (at + 16) (now (t .entry)) (now (t .exit)) × (Spans g s x a (at + 17) → Reached vs i g s x a (at + 16) r)) ⌝ }
-{
-    let v = walk::leap_all(w, 15);
-    if walk::alike(w, v) {
-        fill_flat(t, at, at + 16, pack(walk::mixed(w)));
-        return walk::next_all(v);
-    }
-    fill_steps(t, at, at + 16, w);
-    walk::next_all(v)
-}
-
-// Stores the colors of walks in steps of `stride` units that start x units from stop i, in a gap of g units.
-fn fill_walked(
-    t: &mut [u32],
-    at: usize,
-    end: usize,
-    values: &[u32],
-    i: usize,
-    g: u32,
-    stride: u32,
-    x: u32,
-)
-    requires { ⌜ (at ≤ end) × (end ≤ length (now t)) × (length (now t) < mostSteps) ⌝ }
-    requires { ⌜ (4 * i + 7 < length (now values)) × Small (now values) × Gap g stride x × Spans g stride x at end ⌝ }
-    ensures { λ _. ⌜ Stored (walkedAt (now (values .entry)) i g stride x at) at end (now (t .entry)) (now (t .exit)) ⌝ }
-{
-    let mut w = walk::begin_all(values, i, g, stride, x);
-    let mut k = at;
-    while k + 16 <= end {
-        w = fill_block(t, k, w);
-        k += 16;
-    }
-    fill_steps(t, k, end, w);
-}
-
-// ---- the same where colors change slowly
-
-// Stores the next n colors of the walks, and takes the walks past them, as `fill_block` does for 16.
+// Stores the next n colors of the walks, and takes the walks past them. If the first and the last are the same, so are those between.
 fn fill_even(t: &mut [u32], at: usize, n: usize, w: Channels) -> Channels
     requires { ⌜ (0 < n) × (at + n ≤ length (now t)) × ((c : Channel) → Fits (n - 1) (walkOf w c)) ⌝ }
     ensures { λ r. ⌜ ((vs : List ℕ) (i g s x a : ℕ) → a ≤ at → Spans g s x a (at + n) → Reached vs i g s x a at w
@@ -138,7 +97,7 @@ fn next_size(w: Channels, p: Paces, left: usize) -> usize
     if m < left { m + 1 } else { left }
 }
 
-// Stores the colors of walks, one color at a time.
+// Stores the colors of walks in steps of `stride` units that start x units from stop i, in a gap of g units: one color at a time.
 fn fill_smooth(
     t: &mut [u32],
     at: usize,
@@ -163,7 +122,7 @@ fn fill_smooth(
     }
 }
 
-// By the faster of the two.
+// The same, step by step where colors change fast.
 fn fill_gap(
     t: &mut [u32],
     at: usize,
@@ -181,7 +140,7 @@ fn fill_gap(
     if walk::is_smooth(values, i, g, stride) {
         fill_smooth(t, at, end, values, i, g, stride, x);
     } else {
-        fill_walked(t, at, end, values, i, g, stride, x);
+        fill_steps(t, at, end, walk::begin_all(values, i, g, stride, x));
     }
 }
 
@@ -320,7 +279,7 @@ pub fn fill_spaced(t: &mut [u32], positions: &[u32], values: &[u32], base: u32, 
 
 // ---- stretches: colors from walks, with no table
 
-// `count` locations from `first` on that lie between two stops, and the walks at the first.
+// `count` locations from `first` on that have the same stops around them, and the walks at the first.
 pub struct Stretch {
     pub first: u64,
     pub count: u64,
@@ -336,8 +295,8 @@ fn standing() -> Walk {
 }
 
 // A stretch of no locations.
-fn no_stretch() -> Stretch
-    ensures { λ t. ⌜ t .count ≡ 0 ⌝ }
+pub fn no_stretch() -> Stretch
+    ensures { λ t. ⌜ (t .first ≡ 0) × (t .count ≡ 0) ⌝ }
 {
     Stretch {
         first: 0,
@@ -377,7 +336,20 @@ fn stretch_between(positions: &[u32], values: &[u32], i: usize) -> Stretch
     }
 }
 
-// The stretch that s is in; one of no locations where s is not between two stops, or far away.
+// The stretch from the biased location `first` up to the position at a place, where all locations have the color of stop i.
+fn flat_stretch(positions: &[u32], values: &[u32], i: usize, first: u32, place: usize) -> Stretch
+    requires { ⌜ Lent (now positions) (now values) × Flat (now positions) i first place ⌝ }
+    ensures { λ t. ⌜ Stretched (now (positions .entry)) (now (values .entry)) t ⌝ }
+{
+    let end = run_end(positions, place, first + LONGEST);
+    Stretch {
+        first: (first - numbers::BIAS) as u64,
+        count: (end - first) as u64,
+        walks: walk::stay_all(values, i),
+    }
+}
+
+// The stretch that s is in, or its first locations where there are too many; one of no locations where s is far away or in a gap that is too long.
 pub fn stretch_at(positions: &[u32], values: &[u32], s: u64) -> Stretch
     requires { ⌜ Lent (now positions) (now values) ⌝ }
     ensures { λ t. ⌜ Stretched (now (positions .entry)) (now (values .entry)) t ⌝ }
@@ -387,10 +359,11 @@ pub fn stretch_at(positions: &[u32], values: &[u32], s: u64) -> Stretch
     }
     let place = place_above(positions, 0, numbers::BIAS + (s as u32));
     if place == 0 {
-        return no_stretch();
+        return flat_stretch(positions, values, 0, numbers::BIAS, 0);
     }
     if place == positions.len() {
-        return no_stretch();
+        let i = place - 1;
+        return flat_stretch(positions, values, i, from_zero(positions[i]), place);
     }
     stretch_between(positions, values, place - 1)
 }
@@ -405,10 +378,10 @@ pub fn is_in(t: Stretch, s: u64) -> bool
     s - t.first < t.count
 }
 
-// The color at a location that the stretch has.
-pub fn color_in(t: Stretch, s: u64) -> u32
-    requires { ⌜ (t .first ≤ s) × ((c : Channel) → Fits (s - t .first) (walkOf (t .walks) c)) ⌝ }
-    ensures { λ r. ⌜ ((ps vs : List ℕ) → Stretched ps vs t → s < t .first + t .count → r ≡ entryOf ps vs s) ⌝ }
+// The color at the location that is n units from the stretch's first.
+pub fn color_in(t: Stretch, n: u32) -> u32
+    requires { ⌜ Leaps t × (n < t .count) ⌝ }
+    ensures { λ r. ⌜ ((ps vs : List ℕ) → Stretched ps vs t → r ≡ entryOf ps vs (t .first + n)) ⌝ }
 {
-    pack(walk::mixed(walk::leap_all(t.walks, s - t.first)))
+    pack(walk::mixed(walk::leap_all(t.walks, n as u64)))
 }

@@ -8,7 +8,7 @@ use Rattle.color.specs.Stop.{Channel, red, green, blue, alpha}
 use Rattle.color.specs.Byte.{rgba}
 use Rattle.color.specs.Lent.{valuesAt, mix, scale}
 use Rattle.color.specs.declared.Rgba.{Rgba}
-use Rattle.walk.specs.Walk.{Walks}
+use Rattle.walk.specs.Walk.{mostSteps, Walks}
 use Rattle.walk.specs.declared.Walk.{Walk}
 use Rattle.walk.specs.declared.Channels.{Channels}
 use Rattle.walk.specs.declared.Paces.{Paces}
@@ -22,6 +22,10 @@ walkOf w alpha = w .alpha
 -- walks in steps of s units that are x units from stop i, in a gap of g units, and right for `left` more steps
 abbrev pub Going : List ℕ → ℕ → ℕ → ℕ → ℕ → ℕ → Channels → Type 0
 Going vs i g s x left w = (c : Channel) → Walks (valuesAt vs i c) (valuesAt vs (i + 1) c) g s x left (walkOf w c)
+
+-- walks that stay at the color of stop i: from it to a stop of the same color
+abbrev pub Staying : List ℕ → ℕ → Channels → Type 0
+Staying vs i w = (c : Channel) → Walks (valuesAt vs i c) (valuesAt vs i c) mostSteps 1 0 mostSteps (walkOf w c)
 
 -- the walks are at the same bytes
 abbrev pub Alike : Channels → Channels → Type 0

@@ -10,7 +10,7 @@ ghost use Rattle.numbers.specs.Fraction.{nearest};
 ghost use Rattle.color.specs.Stop.{Channel};
 ghost use Rattle.color.specs.Lent.{Small, mix, scale};
 ghost use Rattle.walk.specs.Walk.{mostSteps, shortGap, Gap, InGap, numeratorAt, Walks, Further, Fits};
-ghost use Rattle.walk.specs.Channels.{walkOf, Going, Alike, mixOf, mostPace, Paced};
+ghost use Rattle.walk.specs.Channels.{walkOf, Going, Staying, Alike, mixOf, mostPace, Paced};
 
 // The square root of `ONE`.
 const ROOT_OF_ONE: u64 = 134217728;
@@ -189,6 +189,21 @@ pub fn begin_any(values: &[u32], i: usize, g: u32, s: u32, x: u32) -> Channels
     begin_short_all(values, i, g, s, x)
 }
 
+// The walks that stay at the color of stop i.
+pub fn stay_all(values: &[u32], i: usize) -> Channels
+    requires { ⌜ (4 * i + 3 < length (now values)) × Small (now values) ⌝ }
+    ensures { λ w. ⌜ Staying (now (values .entry)) i w ⌝ }
+{
+    let k = 4 * i;
+    let g = MOST_STEPS as u32;
+    Channels {
+        red: begin_channel(values, k, k, g, 1, 0),
+        green: begin_channel(values, k + 1, k + 1, g, 1, 0),
+        blue: begin_channel(values, k + 2, k + 2, g, 1, 0),
+        alpha: begin_channel(values, k + 3, k + 3, g, 1, 0),
+    }
+}
+
 // The walks one step on.
 pub fn next_all(w: Channels) -> Channels
     ensures { λ v. ⌜ ((c : Channel) → Fits 1 (walkOf w c) → Further 1 (walkOf w c) (walkOf v c)) ⌝ }
@@ -266,7 +281,7 @@ fn apart(values: &[u32], k: usize) -> u64
     if p < q { q - p } else { p - q }
 }
 
-// Whether each byte stays the same for about 64 steps of s units or more, from stop i to the next, which is g units on.
+// Whether each byte stays the same for about 32 steps of s units or more, from stop i to the next, which is g units on.
 pub fn is_smooth(values: &[u32], i: usize, g: u32, s: u32) -> bool
     requires { ⌜ 4 * i + 7 < length (now values) ⌝ }
 {
@@ -275,7 +290,7 @@ pub fn is_smooth(values: &[u32], i: usize, g: u32, s: u32) -> bool
         greater(apart(values, k), apart(values, k + 1)),
         greater(apart(values, k + 2), apart(values, k + 3)),
     );
-    d * (s as u64) < 4 * (g as u64)
+    d * (s as u64) < 8 * (g as u64)
 }
 
 // How much a step changes the byte.

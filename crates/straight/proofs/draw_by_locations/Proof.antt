@@ -21,26 +21,26 @@ use Rattle.straight.proofs.draw_by_locations.Statement.{statement}
 use Rattle.straight.proofs.draw_by_locations.Tie as tie
 
 abbrev Inv-loop : tie.InvT-loop
-Inv-loop ramp r v z j i n at buf₀ k₀ o₀ buf k o =
+Inv-loop ramp t r v z j i n at buf₀ k₀ o₀ buf k o =
     (buf ≡ patched buf₀ at (part (rampPixel ramp (L.Straight v) (z .w) (z .h)) i k j)) × (o ≡ at + 4 * k) × (k ≤ n) × (length buf ≡ length buf₀)
 
 abbrev μ-loop : tie.MeasureT-loop
-μ-loop ramp r v z j i n at buf₀ k₀ o₀ buf k o = n - k
+μ-loop ramp t r v z j i n at buf₀ k₀ o₀ buf k o = n - k
 
 loop-holds : tie.Need-loop-holds Inv-loop μ-loop
 loop-holds c = let a = c .before .before .args in (rw part-none (patch-none (now (a .buf)) (a .at)), omega arith, omega arith, refl)
 
 add-locate : tie.Need-add-locate Inv-loop μ-loop
-add-locate c = omega (arith, c .before .before .before .before .pre .1 .box .width)
+add-locate c = omega (arith, c .before .before .before .before .pre .2 .box .width)
 
 locate-requires : tie.Need-locate-requires Inv-loop μ-loop
 locate-requires c κs = search needs
 
-cast-color : tie.Need-cast-color Inv-loop μ-loop
-cast-color c = search needs
+cast-color-near : tie.Need-cast-color-near Inv-loop μ-loop
+cast-color-near c = search needs
 
-color-requires : tie.Need-color-requires Inv-loop μ-loop
-color-requires c κs = let p = c .before .before .before .before .before .pre in (p .0, search needs)
+color-near-requires : tie.Need-color-near-requires Inv-loop μ-loop
+color-near-requires c κs = let p = c .before .before .before .before .before .pre in (p .0, p .1, search needs)
 
 put-word-requires : tie.Need-put-word-requires Inv-loop μ-loop
 put-word-requires c κs = omega arith
@@ -65,7 +65,7 @@ loop-again c =
     let px : (ℕ → ℕ → List ℕ) = rampPixel (now (a .ramp)) (L.Straight (a .v)) (a .z .w) (a .z .h) in
     let q = c .before .before .before .before .before .locate in
     let e : c .before .before .put-word .last .0 ≡ patched (l .buf) (l .o) (px (a .i + l .k) (a .j)) =
-    c .before .before .put-word .ensures ∙ ap (λ (n : ℕ). patched (l .buf) (l .o) (wordBytes n)) (c .before .before .before .before .color .ensures ∙ ap (colorIn (now (a .ramp))) (q .ensures)) in (
+    c .before .before .put-word .ensures ∙ ap (λ (n : ℕ). patched (l .buf) (l .o) (wordBytes n)) (c .before .before .before .before .color-near .ensures ∙ ap (colorIn (now (a .ramp))) (q .ensures)) in (
       part-step px (four (now (a .ramp)) (L.Straight (a .v)) (a .z .w) (a .z .h)) (now (a .buf)) (l .buf) _ (a .at) (l .o) (a .i) (l .k) (a .j) (omega arith) (omega arith) (l .inv .0) e,
       omega arith,
       omega arith,
@@ -89,8 +89,8 @@ draw-by-locations-spec =
     loop-holds
     add-locate
     locate-requires
-    cast-color
-    color-requires
+    cast-color-near
+    color-near-requires
     put-word-requires
     add-o
     add-k

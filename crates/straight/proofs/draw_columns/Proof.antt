@@ -23,8 +23,8 @@ use Rattle.straight.proofs.draw_columns.Tie as tie
 abbrev Inv-loop : tie.InvT-loop
 Inv-loop ramp steps v z i n at buf₀ m j₀ o₀ buf j o =
     (o ≡ at + 4 * z .w * (j - z .a)) × (z .a ≤ j) × (j ≤ z .b) × (length buf ≡ length buf₀)
-    × ((d : List ℕ) → length d ≡ length buf₀ → Begun (rampPixel ramp (L.Straight v) (z .w) (z .h)) (z .w) (z .a) (z .b) i d at buf₀
-    → buf ≡ patched d at (strip (upTo (rampPixel ramp (L.Straight v) (z .w) (z .h)) (i + n) d at (z .w) (z .a)) (z .w) (z .a) j ++ strip (upTo (rampPixel ramp (L.Straight v) (z .w) (z .h)) i d at (z .w) (z .a)) (z .w) j (z .b)))
+    × ((f : ℕ → ℕ → List ℕ) (d : List ℕ) → ((k j : ℕ) → length (f k j) ≡ 4) → length d ≡ length buf₀ → Begun (rampPixel ramp (L.Straight v) (z .w) (z .h)) (z .w) (z .a) (z .b) i f d at buf₀
+    → buf ≡ patched d at (strip (upTo (rampPixel ramp (L.Straight v) (z .w) (z .h)) (i + n) f) (z .w) (z .a) j ++ strip (upTo (rampPixel ramp (L.Straight v) (z .w) (z .h)) i f) (z .w) j (z .b)))
 
 abbrev μ-loop : tie.MeasureT-loop
 μ-loop ramp steps v z i n at buf₀ m j₀ o₀ buf j o = z .b - j
@@ -35,7 +35,7 @@ mul-m c = search needs
 loop-holds : tie.Need-loop-holds Inv-loop μ-loop
 loop-holds c =
     let s = c .before .before .before in
-    (rw (sub-self, mul-zero, add-zero), omega arith, s .pre .3, refl, λ d l e. rw strip-none e)
+    (rw (sub-self, mul-zero, add-zero), omega arith, s .pre .3, refl, λ f d g l e. rw strip-none e)
 
 row-line-requires : tie.Need-row-line-requires Inv-loop μ-loop
 row-line-requires c κs = let s = c .before .before .before .before .before .before in (s .pre .1, s .pre .2, omega (arith, s .pre .4))
@@ -81,18 +81,18 @@ loop-again c =
       omega arith,
       omega arith,
       omega arith,
-      λ d m begun. columns-step px (four (now (a .ramp)) (L.Straight (a .v)) (a .z .w) (a .z .h)) d (a .at) (a .z .w) (a .z .a) (a .i) (a .n) (a .z .w - (a .i + a .n)) (l .j) e (a .z .b) (l .buf) _ (l .o + 4 * a .i)
-          (l .inv .1) (omega arith) (omega (arith, s .pre .5)) (omega arith) (l .inv .4 d m begun) (c .before .before .draw-part .ensures),
+      λ f d g m begun. columns-step px f (four (now (a .ramp)) (L.Straight (a .v)) (a .z .w) (a .z .h)) g (a .z .w) (a .i) (a .n) (a .z .w - (a .i + a .n)) (l .j) e (a .z .a) (a .z .b) (a .at) (l .o + 4 * a .i) d (l .buf) _
+          (l .inv .1) (omega arith) (omega (arith, s .pre .5)) (omega arith) (l .inv .4 f d g m begun) (c .before .before .draw-part .ensures),
     )
 
 same-length : tie.Need-same-length Inv-loop μ-loop
 same-length c = c .before .before .loop .inv .3
 
 returns : tie.Need-returns Inv-loop μ-loop
-returns c = λ d m begun.
+returns c = λ f d g m begun.
     let a = c .before .before .before .before .before .before .args in
     let e : c .before .before .loop .j ≡ a .z .b = omega arith in
-    rw (strip-none, append-nil) at (rw e at (c .before .before .loop .inv .4 d m begun))
+    rw (strip-none, append-nil) at (rw e at (c .before .before .loop .inv .4 f d g m begun))
 
 pub draw-columns-spec : {M : Type 1} → statement M
 draw-columns-spec =

@@ -7,7 +7,6 @@ use native.Mathlib.Nat.{add-zero}
 use native.Mathlib.Omega.{arith}
 use denote.Ref.{now}
 use lib.ListN.{length, getD}
-use Rattle.line.specs.Location.{locationBy}
 use Rattle.line.specs.Represented.{ruleIn}
 use Rattle.line.specs.declared.SignedVector.{SignedVector}
 use Rattle.line.specs.declared.Line.the-variants as L
@@ -18,14 +17,11 @@ use Rattle.picture.proofs.Rows.{part-none}
 use Rattle.picture.proofs.Patches.{patch-none}
 use Rattle.picture.proofs.Turns.{part-step}
 use Rattle.rows.specs.Pixel.{pixelBy}
+use Rattle.straight.specs.Certain.{Located}
 use Rattle.straight.proofs.Certain.{from-base, entry-within, entry-location}
 use borrow.Author.Needs.{needs}
 use Rattle.straight.proofs.draw_from_table.Statement.{statement}
 use Rattle.straight.proofs.draw_from_table.Tie as tie
-
--- entry m is the location of pixel i + m
-abbrev Located : ℕ → ℕ → ℕ → ℕ → ℕ → SignedVector → ℕ → ℕ → ℕ → Type 0
-Located base i n e step v w h j = (m : ℕ) → m < n → base + (e + step * m) % 18446744073709551616 / 33554432 ≡ locationBy (ruleIn (L.Straight v) w h) (i + m) j
 
 abbrev Inv-loop : tie.InvT-loop
 Inv-loop t base i n at buf₀ step e₀ k₀ o₀ buf e k o =

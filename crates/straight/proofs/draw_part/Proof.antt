@@ -7,6 +7,7 @@ use denote.Ref.{now}
 use borrow.Author.Needs.{needs}
 use Rattle.picture.proofs.Rows.{part-none}
 use Rattle.picture.proofs.Patches.{patch-none}
+use Rattle.table.proofs.Stretches.{stretched-none}
 use Rattle.ramp.specs.Ramp.{Entries, colorIn}
 use Rattle.straight.specs.Certain.{AllCertain}
 use Rattle.straight.proofs.draw_part.Statement.{statement}
@@ -33,8 +34,11 @@ draw-from-table-requires c κs =
     let s = c .before .before .before .before .before .before .before .before in
     (omega (arith, c .before .before .before .before .before .if1 .left), record { fits = λ k h. s .pre .1 .fits (s .args .i + k) (omega (arith, s .pre .2)); certain = c .before .before .floors-certain .ensures (c .before .if2 .taken) }, s .pre .3)
 
+no-stretch-requires : tie.Need-no-stretch-requires
+no-stretch-requires c κs = search needs
+
 draw-by-locations-requires : tie.Need-draw-by-locations-requires
-draw-by-locations-requires c κs = search needs
+draw-by-locations-requires c κs = let p = c .before .before .before .before .before .before .before .before .before .pre in (p .0, stretched-none _ _ _ (c .before .no-stretch .ensures), p .1, p .2, p .3)
 
 same-length : tie.Need-same-length
 same-length c = search needs
@@ -61,6 +65,7 @@ draw-part-spec =
     base-of-requires
     floors-certain-requires
     draw-from-table-requires
+    no-stretch-requires
     draw-by-locations-requires
     same-length
     returns-2

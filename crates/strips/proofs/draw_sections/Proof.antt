@@ -8,8 +8,7 @@ use borrow.Author.Needs.{needs}
 use Rattle.line.specs.declared.Line.the-variants as L
 use Rattle.picture.specs.Picture.{patched}
 use Rattle.rows.specs.Pixel.{rampPixel}
-use Rattle.rows.proofs.Pixels.{four}
-use Rattle.straight.specs.Begun.{Begun}
+use Rattle.straight.specs.Begun.{standing, Begun}
 use Rattle.straight.proofs.Columns.{begun-alike, columns-none, columns-all}
 use Rattle.strips.proofs.Handed.{same-pixels}
 use Rattle.strips.proofs.draw_sections.Statement.{statement}
@@ -17,7 +16,7 @@ use Rattle.strips.proofs.draw_sections.Tie as tie
 
 abbrev Inv-loop : tie.InvT-loop
 Inv-loop ramp₀ stops v z buf₀ steps i₀ ramp buf i =
-    Begun (rampPixel stops (L.Straight v) (z .w) (z .h)) (z .w) (z .a) (z .b) i buf₀ 0 buf × (i ≤ z .w) × (length ramp ≡ length ramp₀) × (length buf ≡ length buf₀)
+    Begun (rampPixel stops (L.Straight v) (z .w) (z .h)) (z .w) (z .a) (z .b) i (standing buf₀ 0 (z .w) (z .a)) buf₀ 0 buf × (i ≤ z .w) × (length ramp ≡ length ramp₀) × (length buf ≡ length buf₀)
 
 abbrev μ-loop : tie.MeasureT-loop
 μ-loop ramp₀ stops v z buf₀ steps i₀ ramp buf i = z .w - i
@@ -30,7 +29,7 @@ loop-holds c =
     let s = c .before .before .before .before in
     let a = s .args in
     let p = s .pre .0 in (
-      columns-none (rampPixel (now (a .stops)) (L.Straight (a .v)) (a .z .w) (a .z .h)) (four (now (a .stops)) (L.Straight (a .v)) (a .z .w) (a .z .h)) (now (a .buf)) 0 (a .z .w) (a .z .a) (a .z .b) (omega (arith, p .rows .room)) (p .placed .box .some-width),
+      columns-none (rampPixel (now (a .stops)) (L.Straight (a .v)) (a .z .w) (a .z .h)) (now (a .buf)) 0 (a .z .w) (a .z .a) (a .z .b) (omega (arith, p .rows .room)) (p .placed .box .some-width),
       omega arith,
       refl,
       refl,
@@ -61,8 +60,8 @@ set-table-requires c κs =
     let l = c .before .before .before .before .before .before .before .loop .inv .2 in
     (s .pre .0 .stops, omega (arith, r .head, l), omega (arith, r .most, l, c .base-of .ensures), omega (arith, r .most, l))
 
-draw-band-requires : tie.Need-draw-band-requires Inv-loop μ-loop
-draw-band-requires c κs =
+draw-tiles-requires : tie.Need-draw-tiles-requires Inv-loop μ-loop
+draw-tiles-requires c κs =
     let p = c .before .before .before .before .before .before .before .before .before .before .before .before .before .before .before .before .before .pre .0 in
     let n = c .before .before .before .before .before .before .before .before .at-most .ensures in
     (c .before .before .before .before .set-table .ensures .ramp, p .placed .box, c .before .before .before .before .before .before .before .before .before .before .before .before .before .steps-of .ensures, omega (arith, p .rows .some), p .rows .within, omega (arith, p .rows .room, c .before .before .before .before .before .before .before .before .before .before .before .before .loop .inv .3), omega arith, omega (arith, n .2))
@@ -77,9 +76,9 @@ loop-again c =
     let n = c .before .before .before .before .before .before .before .before .before .before .before .at-most .ensures in
     let like = c .before .before .before .before .before .before .before .set-table .ensures in
     let same = same-pixels (now (a .stops)) _ like (L.Straight (a .v)) (a .z .w) (a .z .h) in
-    let before = begun-alike (rampPixel (now (a .stops)) (L.Straight (a .v)) (a .z .w) (a .z .h)) _ (λ i j. sym (same i j)) (a .z .w) (a .z .a) (a .z .b) (l .i) (now (a .buf)) 0 (l .buf) (l .inv .0) in
-    let after = c .before .before .draw-band .ensures (now (a .buf)) (sym (l .inv .3)) before in (
-      begun-alike _ (rampPixel (now (a .stops)) (L.Straight (a .v)) (a .z .w) (a .z .h)) same (a .z .w) (a .z .a) (a .z .b) _ (now (a .buf)) 0 _ after,
+    let before = begun-alike (rampPixel (now (a .stops)) (L.Straight (a .v)) (a .z .w) (a .z .h)) _ (standing (now (a .buf)) 0 (a .z .w) (a .z .a)) (λ i j. sym (same i j)) (a .z .w) (a .z .a) (a .z .b) (l .i) (now (a .buf)) 0 (l .buf) (l .inv .0) in
+    let after = c .before .before .draw-tiles .ensures (standing (now (a .buf)) 0 (a .z .w) (a .z .a)) (now (a .buf)) (λ k j. refl) (sym (l .inv .3)) before in (
+      begun-alike _ (rampPixel (now (a .stops)) (L.Straight (a .v)) (a .z .w) (a .z .h)) _ same (a .z .w) (a .z .a) (a .z .b) _ (now (a .buf)) 0 _ after,
       omega (arith, n .2),
       omega arith,
       omega arith,
@@ -95,7 +94,7 @@ returns : tie.Need-returns Inv-loop μ-loop
 returns c =
     let a = c .before .before .before .before .before .before .before .args in
     let e : c .before .before .loop .i ≡ a .z .w = omega arith in
-    rw e at (c .before .before .loop .inv .0) ∙ ap (patched (now (a .buf)) 0) (columns-all (rampPixel (now (a .stops)) (L.Straight (a .v)) (a .z .w) (a .z .h)) (four (now (a .stops)) (L.Straight (a .v)) (a .z .w) (a .z .h)) (now (a .buf)) 0 (a .z .w) (a .z .a) (a .z .b))
+    rw e at (c .before .before .loop .inv .0) ∙ ap (patched (now (a .buf)) 0) (columns-all (rampPixel (now (a .stops)) (L.Straight (a .v)) (a .z .w) (a .z .h)) _ (a .z .w) (a .z .a) (a .z .b))
 
 pub draw-sections-spec : {M : Type 1} → statement M
 draw-sections-spec =
@@ -111,7 +110,7 @@ draw-sections-spec =
     first-requires
     base-of-requires
     set-table-requires
-    draw-band-requires
+    draw-tiles-requires
     loop-less
     loop-again
     same-length

@@ -5,11 +5,8 @@ use Rattle.table.proofs.Stretches.{stretched-color}
 use Rattle.table.proofs.color_in.Statement.{statement}
 use Rattle.table.proofs.color_in.Tie as tie
 
-sub-leap-all : tie.Need-sub-leap-all
-sub-leap-all c = search needs
-
 leap-all-requires : tie.Need-leap-all-requires
-leap-all-requires c κs = search needs
+leap-all-requires c κs = c .pre .0 .fits (c .args .n) (c .pre .1)
 
 mixed-requires : tie.Need-mixed-requires
 mixed-requires c κs = search needs
@@ -18,10 +15,10 @@ pack-requires : tie.Need-pack-requires
 pack-requires c κs = search needs
 
 returns : tie.Need-returns
-returns c = λ ps vs h l.
-    let s = c .before .before .before .before in
-    c .pack .ensures ∙ stretched-color ps vs (s .args .t) h (s .args .s) (s .pre .0) l (c .before .before .leap-all .result) (c .before .before .leap-all .ensures) _ (c .before .mixed .ensures)
+returns c = λ ps vs h.
+    let s = c .before .before .before in
+    c .pack .ensures ∙ stretched-color ps vs (s .args .t) h (s .args .n) (s .pre .1) (c .before .before .leap-all .result) (c .before .before .leap-all .ensures) _ (c .before .mixed .ensures)
 
 pub color-in-spec : {M : Type 1} → statement M
 color-in-spec =
-    tie.close (tie.spec sub-leap-all leap-all-requires mixed-requires pack-requires returns)
+    tie.close (tie.spec leap-all-requires mixed-requires pack-requires returns)

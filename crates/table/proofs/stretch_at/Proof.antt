@@ -1,9 +1,10 @@
 -- `table::stretch_at` meets its contract. Assumes nothing.
-use mathlib.Core.Path.{_≡_}
+use mathlib.Core.Path.{_≡_, _∙_}
 use Prim.Native.Nat.{_+_, _-_}
 use native.Mathlib.Omega.{arith}
+use denote.Ref.{now}
 use borrow.Author.Needs.{needs}
-use Rattle.table.proofs.Stretches.{stretched-none}
+use Rattle.table.proofs.Stretches.{stretched-none, flat-before, flat-after}
 use Rattle.table.proofs.stretch_at.Statement.{statement}
 use Rattle.table.proofs.stretch_at.Tie as tie
 
@@ -22,17 +23,41 @@ add-place-above c = search needs
 place-above-requires : tie.Need-place-above-requires
 place-above-requires c κs = search needs
 
-no-stretch-requires-2 : tie.Need-no-stretch-requires-2
-no-stretch-requires-2 c κs = search needs
+flat-stretch-requires : tie.Need-flat-stretch-requires
+flat-stretch-requires c κs =
+    let s = c .before .before .before .before .before in
+    let p = c .before .place-above in
+    (s .pre, flat-before (now (s .args .positions)) (s .args .s) (rw (c .if2 .taken) at (p .ensures)))
 
 returns-2 : tie.Need-returns-2
-returns-2 c = stretched-none _ _ _ (c .no-stretch2 .ensures)
+returns-2 c = search needs
 
-no-stretch-requires-3 : tie.Need-no-stretch-requires-3
-no-stretch-requires-3 c κs = search needs
+sub-i : tie.Need-sub-i
+sub-i c = search needs
+
+mul-from-zero : tie.Need-mul-from-zero
+mul-from-zero c = search needs
+
+shared-slice-read-from-zero : tie.Need-shared-slice-read-from-zero
+shared-slice-read-from-zero c = search needs
+
+from-zero-requires : tie.Need-from-zero-requires
+from-zero-requires c κs = search needs
+
+flat-stretch-requires-2 : tie.Need-flat-stretch-requires-2
+flat-stretch-requires-2 c κs =
+    let s = c .before .before .before .before .before .before .before .before in
+    let p = c .before .before .before .before .place-above in
+    let i = p .result - 1 in
+    let e : i + 1 ≡ p .result = omega (arith, c .before .before .before .if2 .left) in
+    let z = c .from-zero in (
+      s .pre,
+      rw e at (flat-after (now (s .args .positions)) (s .pre .rising) i (s .args .s) (z .result) (c .before .before .before .before .before .if1 .left) (e ∙ c .before .before .if3 .taken) (z .ensures .0) (z .ensures .1)
+          (z .ensures .2 _ (omega arith) (p .ensures .below i (omega arith)))),
+    )
 
 returns-3 : tie.Need-returns-3
-returns-3 c = stretched-none _ _ _ (c .no-stretch3 .ensures)
+returns-3 c = search needs
 
 sub-stretch-between : tie.Need-sub-stretch-between
 sub-stretch-between c = search needs
@@ -56,9 +81,13 @@ stretch-at-spec =
     cast-place-above
     add-place-above
     place-above-requires
-    no-stretch-requires-2
+    flat-stretch-requires
     returns-2
-    no-stretch-requires-3
+    sub-i
+    mul-from-zero
+    shared-slice-read-from-zero
+    from-zero-requires
+    flat-stretch-requires-2
     returns-3
     sub-stretch-between
     stretch-between-requires

@@ -3,7 +3,7 @@ use Prim.Native.Nat.{_+_, _≤_, _<_}
 use native.Mathlib.Omega.{arith}
 use denote.Ref.{now}
 use borrow.Author.Needs.{needs}
-use Rattle.table.proofs.Stretches.{stretched-none, stretched-some, some}
+use Rattle.table.proofs.Stretches.{stretched-none, stretched-between, some-between}
 use Rattle.table.proofs.stretch_between.Statement.{statement}
 use Rattle.table.proofs.stretch_between.Tie as tie
 
@@ -18,7 +18,7 @@ after c =
     let s = c .before .before .before .before .before .before .before in
     let a = s .args in
     let f = c .before .from-zero in
-    some (now (a .positions)) (now (a .values)) (s .pre .0) (a .i) (f .result) (c .run-end .result) (s .pre .1) (s .pre .2) (f .ensures .0) (f .ensures .1) (near (c .before)) (c .run-end .ensures)
+    some-between (now (a .positions)) (now (a .values)) (s .pre .0) (a .i) (f .result) (c .run-end .result) (s .pre .1) (s .pre .2) (f .ensures .0) (f .ensures .1) (near (c .before)) (c .run-end .ensures)
 
 mul-a : tie.Need-mul-a
 mul-a c = search needs
@@ -85,7 +85,7 @@ returns-2 c =
     let s = c .before .before .before .before .before .before .before .before in
     let a = s .args in
     let f = c .before .before .from-zero in
-    stretched-some (now (a .positions)) (now (a .values)) (s .pre .0) (a .i) (f .result) (c .before .run-end .result) (s .pre .1) (s .pre .2) (f .ensures .0) (f .ensures .1) (near (c .before .before))
+    stretched-between (now (a .positions)) (now (a .values)) (s .pre .0) (a .i) (f .result) (c .before .run-end .result) (s .pre .1) (s .pre .2) (f .ensures .0) (f .ensures .1) (near (c .before .before))
     (c .before .run-end .ensures) _ (c .begin-any .ensures)
 
 pub stretch-between-spec : {M : Type 1} → statement M
