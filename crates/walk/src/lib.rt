@@ -281,7 +281,7 @@ fn apart(values: &[u32], k: usize) -> u64
     if p < q { q - p } else { p - q }
 }
 
-// Whether each byte stays the same for about 32 steps of s units or more, from stop i to the next, which is g units on.
+// Whether each byte stays the same for about 20 steps of s units or more, from stop i to the next, which is g units on.
 pub fn is_smooth(values: &[u32], i: usize, g: u32, s: u32) -> bool
     requires { ⌜ 4 * i + 7 < length (now values) ⌝ }
 {
@@ -290,7 +290,7 @@ pub fn is_smooth(values: &[u32], i: usize, g: u32, s: u32) -> bool
         greater(apart(values, k), apart(values, k + 1)),
         greater(apart(values, k + 2), apart(values, k + 3)),
     );
-    d * (s as u64) < 8 * (g as u64)
+    d * (s as u64) < 12 * (g as u64)
 }
 
 // How much a step changes the byte.
