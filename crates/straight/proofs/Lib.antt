@@ -1,3 +1,2 @@
-pub mod Certain
 pub mod Columns
 pub mod Shifts

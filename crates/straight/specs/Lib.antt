@@ -1,3 +1,2 @@
-pub mod Certain
 pub mod Begun
 pub mod Shift

@@ -70,7 +70,61 @@ fn fill_steps(t: &mut [u32], at: usize, end: usize, start: Channels)
     }
 }
 
-// Stores the next n colors of the walks, and takes the walks past them. If the first and the last are the same, so are those between.
+// Stores the next 16 colors of the walks, and takes the walks past them. If the first and the last are the same, so are those between.
+fn fill_block(t: &mut [u32], at: usize, w: Channels) -> Channels
+    requires { ⌜ (at + 16 ≤ length (now t)) × ((c : Channel) → Fits 15 (walkOf w c)) ⌝ }
+    ensures { λ r. ⌜ ((vs : List ℕ) (i g s x a : ℕ) → a ≤ at → Spans g s x a (at + 16) → Reached vs i g s x a at w
+        → Stored (walkedAt vs i g s x a) at (at + 16) (now (t .entry)) (now (t .exit)) × (Spans g s x a (at + 17) → Reached vs i g s x a (at + 16) r)) ⌝ }
+{
+    let v = walk::leap_all(w, 15);
+    if walk::alike(w, v) {
+        fill_flat(t, at, at + 16, pack(walk::mixed(w)));
+        return walk::next_all(v);
+    }
+    fill_steps(t, at, at + 16, w);
+    walk::next_all(v)
+}
+
+// Up to where to store in blocks: nowhere where colors change so fast that none has one color.
+fn blocks_end(at: usize, end: usize, values: &[u32], i: usize, g: u32, stride: u32) -> usize
+    requires { ⌜ (at ≤ end) × (4 * i + 7 < length (now values)) ⌝ }
+    ensures { λ r. ⌜ r ≤ end ⌝ }
+{
+    if walk::is_steep(values, i, g, stride) {
+        at
+    } else {
+        end
+    }
+}
+
+// Stores the colors of walks in steps of `stride` units that start x units from stop i, in a gap of g units.
+fn fill_walked(
+    t: &mut [u32],
+    at: usize,
+    end: usize,
+    values: &[u32],
+    i: usize,
+    g: u32,
+    stride: u32,
+    x: u32,
+)
+    requires { ⌜ (at ≤ end) × (end ≤ length (now t)) × (length (now t) < mostSteps) ⌝ }
+    requires { ⌜ (4 * i + 7 < length (now values)) × Small (now values) × Gap g stride x × Spans g stride x at end ⌝ }
+    ensures { λ _. ⌜ Stored (walkedAt (now (values .entry)) i g stride x at) at end (now (t .entry)) (now (t .exit)) ⌝ }
+{
+    let last = blocks_end(at, end, values, i, g, stride);
+    let mut w = walk::begin_all(values, i, g, stride, x);
+    let mut k = at;
+    while k + 16 <= last {
+        w = fill_block(t, k, w);
+        k += 16;
+    }
+    fill_steps(t, k, end, w);
+}
+
+// ---- the same where colors change slowly
+
+// Stores the next n colors of the walks, and takes the walks past them, as `fill_block` does for 16.
 fn fill_even(t: &mut [u32], at: usize, n: usize, w: Channels) -> Channels
     requires { ⌜ (0 < n) × (at + n ≤ length (now t)) × ((c : Channel) → Fits (n - 1) (walkOf w c)) ⌝ }
     ensures { λ r. ⌜ ((vs : List ℕ) (i g s x a : ℕ) → a ≤ at → Spans g s x a (at + n) → Reached vs i g s x a at w
@@ -97,7 +151,7 @@ fn next_size(w: Channels, p: Paces, left: usize) -> usize
     if m < left { m + 1 } else { left }
 }
 
-// Stores the colors of walks in steps of `stride` units that start x units from stop i, in a gap of g units: one color at a time.
+// Stores the colors of walks, one color at a time.
 fn fill_smooth(
     t: &mut [u32],
     at: usize,
@@ -122,7 +176,7 @@ fn fill_smooth(
     }
 }
 
-// The same, step by step where colors change fast.
+// By the faster of the two.
 fn fill_gap(
     t: &mut [u32],
     at: usize,
@@ -140,7 +194,7 @@ fn fill_gap(
     if walk::is_smooth(values, i, g, stride) {
         fill_smooth(t, at, end, values, i, g, stride, x);
     } else {
-        fill_steps(t, at, end, walk::begin_all(values, i, g, stride, x));
+        fill_walked(t, at, end, values, i, g, stride, x);
     }
 }
 

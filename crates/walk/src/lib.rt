@@ -281,8 +281,8 @@ fn apart(values: &[u32], k: usize) -> u64
     if p < q { q - p } else { p - q }
 }
 
-// Whether each byte stays the same for about 20 steps of s units or more, from stop i to the next, which is g units on.
-pub fn is_smooth(values: &[u32], i: usize, g: u32, s: u32) -> bool
+// The most that a value changes from stop i to the next, times s.
+fn change(values: &[u32], i: usize, s: u32) -> u64
     requires { ⌜ 4 * i + 7 < length (now values) ⌝ }
 {
     let k = 4 * i;
@@ -290,7 +290,21 @@ pub fn is_smooth(values: &[u32], i: usize, g: u32, s: u32) -> bool
         greater(apart(values, k), apart(values, k + 1)),
         greater(apart(values, k + 2), apart(values, k + 3)),
     );
-    d * (s as u64) < 12 * (g as u64)
+    d * (s as u64)
+}
+
+// Whether each byte stays the same for about 64 steps of s units or more, from stop i to the next, which is g units on.
+pub fn is_smooth(values: &[u32], i: usize, g: u32, s: u32) -> bool
+    requires { ⌜ 4 * i + 7 < length (now values) ⌝ }
+{
+    change(values, i, s) < 4 * (g as u64)
+}
+
+// Whether some byte changes within about 16 steps.
+pub fn is_steep(values: &[u32], i: usize, g: u32, s: u32) -> bool
+    requires { ⌜ 4 * i + 7 < length (now values) ⌝ }
+{
+    16 * (g as u64) <= change(values, i, s)
 }
 
 // How much a step changes the byte.

@@ -1,4 +1,4 @@
--- `straight::color_near` meets its contract. Assumes nothing.
+-- `rowparts::color_near` meets its contract. Assumes nothing.
 use mathlib.Core.Path.{_≡_, ap, _∙_}
 use mathlib.Core.List.{List}
 use Prim.Native.Nat.{ℕ, _+_, _-_, _≤_, _<_}
@@ -8,8 +8,8 @@ use borrow.Author.Needs.{needs}
 use Rattle.table.specs.Table.{entryOf}
 use Rattle.table.proofs.Stretches.{stretched-leaps}
 use Rattle.ramp.specs.Ramp.{positionsIn, valuesIn, colorIn}
-use Rattle.straight.proofs.color_near.Statement.{statement}
-use Rattle.straight.proofs.color_near.Tie as tie
+use Rattle.rowparts.proofs.color_near.Statement.{statement}
+use Rattle.rowparts.proofs.color_near.Tie as tie
 
 is-in-requires : tie.Need-is-in-requires
 is-in-requires c κs = search needs

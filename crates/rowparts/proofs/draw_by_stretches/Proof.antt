@@ -1,4 +1,4 @@
--- `straight::draw_by_stretches` meets its contract. The invariant: the first k pixels stand from `at` on, and t is a stretch of the ramp. Assumes nothing.
+-- `rowparts::draw_by_stretches` meets its contract. The invariant: the first k pixels stand from `at` on, and t is a stretch of the ramp. Assumes nothing.
 use mathlib.Core.Path.{_≡_, refl}
 use Prim.Native.Nat.{_+_, _-_, _*_, _≤_, _<_}
 use native.Mathlib.Omega.{arith}
@@ -14,8 +14,8 @@ use Rattle.table.proofs.Stretches.{stretched-none}
 use Rattle.ramp.specs.Ramp.{Held}
 use Rattle.rows.specs.Pixel.{rampPixel}
 use Rattle.rows.proofs.Pixels.{four}
-use Rattle.straight.proofs.draw_by_stretches.Statement.{statement}
-use Rattle.straight.proofs.draw_by_stretches.Tie as tie
+use Rattle.rowparts.proofs.draw_by_stretches.Statement.{statement}
+use Rattle.rowparts.proofs.draw_by_stretches.Tie as tie
 
 abbrev Inv-loop : tie.InvT-loop
 Inv-loop ramp r v z j i n at buf₀ t₀ k₀ buf t k =

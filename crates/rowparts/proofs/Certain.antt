@@ -11,7 +11,7 @@ use Rattle.line.specs.declared.Line.the-variants as L
 use Rattle.fixed.specs.Steps.{Reaches, placeAt, Advances, AlongRow}
 use Rattle.fixed.specs.declared.RowLine.{RowLine}
 use Rattle.fixed.proofs.Places.{place-whole}
-use Rattle.straight.specs.Certain.{AllCertain}
+use Rattle.rowparts.specs.Certain.{AllCertain}
 
 module _ (r : RowLine) (i n base size s : ℕ) (some : 0 < n) (a : AllCertain r i n base size) (steps : Advances r s) where
   first : Reaches r i

@@ -1,4 +1,4 @@
--- `straight::draw_piece` meets its contract. Assumes nothing.
+-- `rowparts::draw_piece` meets its contract. Assumes nothing.
 use mathlib.Core.Path.{_≡_}
 use mathlib.Core.List.{List}
 use Prim.Native.Nat.{ℕ, _+_}
@@ -13,8 +13,8 @@ use Rattle.table.specs.Table.{entryOf}
 use Rattle.table.proofs.Stretches.{stretched-leaps}
 use Rattle.ramp.specs.Ramp.{positionsIn, valuesIn, colorIn}
 use Rattle.rows.specs.Pixel.{pixelBy, rampPixel}
-use Rattle.straight.proofs.draw_piece.Statement.{statement}
-use Rattle.straight.proofs.draw_piece.Tie as tie
+use Rattle.rowparts.proofs.draw_piece.Statement.{statement}
+use Rattle.rowparts.proofs.draw_piece.Tie as tie
 
 -- the colors that a stretch has are the ramp's
 held : (rp : List ℕ) (v : SignedVector) (w h i n j at : ℕ) (b b′ : List ℕ)

@@ -1,10 +1,10 @@
--- `straight::piece` meets its contract. Assumes nothing.
+-- `rowparts::piece` meets its contract. Assumes nothing.
 use Prim.Native.Nat.{_+_, _≤_, _<_}
 use native.Mathlib.Omega.{arith}
 use borrow.Author.Tests.{not-false}
 use borrow.Author.Needs.{needs}
-use Rattle.straight.proofs.piece.Statement.{statement}
-use Rattle.straight.proofs.piece.Tie as tie
+use Rattle.rowparts.proofs.piece.Statement.{statement}
+use Rattle.rowparts.proofs.piece.Tie as tie
 
 at-most-requires : tie.Need-at-most-requires
 at-most-requires c κs = search needs

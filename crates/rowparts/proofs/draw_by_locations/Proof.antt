@@ -1,4 +1,4 @@
--- `straight::draw_by_locations` meets its contract. The invariant: the first k pixels stand from `at` on. Assumes nothing.
+-- `rowparts::draw_by_locations` meets its contract. The invariant: the first k pixels stand from `at` on. Assumes nothing.
 use mathlib.Core.Path.{_≡_, refl, ap, _∙_}
 use mathlib.Core.List.{List}
 use Prim.Native.Nat.{ℕ, _+_, _-_, _*_, _≤_}
@@ -17,8 +17,8 @@ use Rattle.picture.proofs.Turns.{part-step}
 use Rattle.rows.specs.Pixel.{rampPixel}
 use Rattle.rows.proofs.Pixels.{four}
 use borrow.Author.Needs.{needs}
-use Rattle.straight.proofs.draw_by_locations.Statement.{statement}
-use Rattle.straight.proofs.draw_by_locations.Tie as tie
+use Rattle.rowparts.proofs.draw_by_locations.Statement.{statement}
+use Rattle.rowparts.proofs.draw_by_locations.Tie as tie
 
 abbrev Inv-loop : tie.InvT-loop
 Inv-loop ramp t r v z j i n at buf₀ k₀ o₀ buf k o =

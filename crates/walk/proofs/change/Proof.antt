@@ -1,12 +1,12 @@
--- `walk::is_smooth` meets its contract. Assumes nothing.
+-- `walk::change` meets its contract. Assumes nothing.
 use mir.Syntax.{w64}
 use mir.Val.{Fits}
 use Prim.Native.Nat.{ℕ, _*_, _≤_, _<_}
 use native.Mathlib.Nat.{mul-le-mul}
 use native.Mathlib.Omega.{arith}
 use borrow.Author.Needs.{needs}
-use Rattle.walk.proofs.is_smooth.Statement.{statement}
-use Rattle.walk.proofs.is_smooth.Tie as tie
+use Rattle.walk.proofs.change.Statement.{statement}
+use Rattle.walk.proofs.change.Tie as tie
 
 product : (d s : ℕ) → d < 4294967296 → s < 4294967296 → Fits w64 (d * s)
 product d s h l =
@@ -53,14 +53,11 @@ mul-result c =
     let hi = c .before .greater2 .ensures 4294967296 (c .before .before .before .apart3 .ensures) (c .before .before .apart4 .ensures) in
     product _ _ (c .greater3 .ensures 4294967296 lo hi) (omega arith)
 
-mul-result-2 : tie.Need-mul-result-2
-mul-result-2 c = search needs
-
 returns : tie.Need-returns
 returns c = search needs
 
-pub is-smooth-spec : {M : Type 1} → statement M
-is-smooth-spec =
+pub change-spec : {M : Type 1} → statement M
+change-spec =
     tie.close
     (tie.spec
     mul-k
@@ -75,5 +72,4 @@ is-smooth-spec =
     greater-requires-2
     greater-requires-3
     mul-result
-    mul-result-2
     returns)

@@ -1,4 +1,4 @@
--- `straight::draw_from_table` meets its contract. The invariant: e is place k, less the table's start, and the first k pixels stand from `at` on.
+-- `rowparts::draw_from_table` meets its contract. The invariant: e is place k, less the table's start, and the first k pixels stand from `at` on.
 -- Assumes nothing.
 use mathlib.Core.Path.{_≡_, refl, sym, ap, _∙_}
 use mathlib.Core.List.{List}
@@ -17,11 +17,11 @@ use Rattle.picture.proofs.Rows.{part-none}
 use Rattle.picture.proofs.Patches.{patch-none}
 use Rattle.picture.proofs.Turns.{part-step}
 use Rattle.rows.specs.Pixel.{pixelBy}
-use Rattle.straight.specs.Certain.{Located}
-use Rattle.straight.proofs.Certain.{from-base, entry-within, entry-location}
+use Rattle.rowparts.specs.Certain.{Located}
+use Rattle.rowparts.proofs.Certain.{from-base, entry-within, entry-location}
 use borrow.Author.Needs.{needs}
-use Rattle.straight.proofs.draw_from_table.Statement.{statement}
-use Rattle.straight.proofs.draw_from_table.Tie as tie
+use Rattle.rowparts.proofs.draw_from_table.Statement.{statement}
+use Rattle.rowparts.proofs.draw_from_table.Tie as tie
 
 abbrev Inv-loop : tie.InvT-loop
 Inv-loop t base i n at buf₀ step e₀ k₀ o₀ buf e k o =

@@ -1,4 +1,4 @@
--- `straight::draw_part` meets its contract. Assumes nothing.
+-- `rowparts::draw_part` meets its contract. Assumes nothing.
 use mathlib.Core.Path.{_≡_}
 use Prim.Native.Nat.{_+_, _<_}
 use native.Mathlib.Omega.{arith}
@@ -9,9 +9,9 @@ use Rattle.picture.proofs.Rows.{part-none}
 use Rattle.picture.proofs.Patches.{patch-none}
 use Rattle.table.proofs.Stretches.{stretched-none}
 use Rattle.ramp.specs.Ramp.{Entries, colorIn}
-use Rattle.straight.specs.Certain.{AllCertain}
-use Rattle.straight.proofs.draw_part.Statement.{statement}
-use Rattle.straight.proofs.draw_part.Tie as tie
+use Rattle.rowparts.specs.Certain.{AllCertain}
+use Rattle.rowparts.proofs.draw_part.Statement.{statement}
+use Rattle.rowparts.proofs.draw_part.Tie as tie
 
 returns : tie.Need-returns
 returns c =
