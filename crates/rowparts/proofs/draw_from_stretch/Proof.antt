@@ -69,7 +69,7 @@ cast-color-in : tie.Need-cast-color-in Inv-loop μ-loop
 cast-color-in c = omega (arith, within (c .before), c .before .before .before .before .before .before .before .pre .2 .few)
 
 color-in-requires : tie.Need-color-in-requires Inv-loop μ-loop
-color-in-requires c κs = (c .before .before .before .before .before .before .before .pre .2, within (c .before))
+color-in-requires c κs = (c .before .before .before .before .before .before .before .pre .2, omega (arith, within (c .before)))
 
 put-word-requires : tie.Need-put-word-requires Inv-loop μ-loop
 put-word-requires c κs = omega arith
