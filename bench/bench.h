@@ -14,22 +14,35 @@ extern "C" {
 enum { STOPS_MAX = 16, TEXT_ROOM = 512, READINGS = 4 };
 enum { TO_RIGHT, TO_BOTTOM, BY_ANGLE, TO_CORNER, CIRCLE, CIRCLE_ASIDE, DIRECTIONS };
 enum { SMALL, MIDDLE, FLAT, WHOLE, BOXES };
+enum { PLAIN, REPEATED, ONE_COLOR, KINDS };
+enum { FORTY_PX, ONE_PX, ONE_UNIT, PERIODS };
 enum { COUNT_WIDTH = 640, COUNT_HEIGHT = 480 }; /* the box in which instructions are counted */
+
+/* The text of a repeated picture begins with this. The rest of it is the same picture with its stops once. */
+#define REPEATING "repeating-"
 
 struct color {
     uint8_t red, green, blue, alpha;
 };
 
+/* How far it is from the first stop to the last: as the text has it, and in 1/64 px. */
+struct period {
+    const char *text;
+    int units;
+};
+
 /* One gradient in one box: as text for the library, in numbers for the others. */
 struct picture {
+    int kind;
     size_t width, height;
     const char *direction;
+    const struct period *period; /* of a repeated picture, else NULL */
     bool opaque;
     char text[TEXT_ROOM];
     size_t text_length;
     bool circle;
     double x0, y0, x1, y1; /* the ends of the line; a circle has its center in x0, y0 */
-    double radius;
+    double radius;         /* repeated, the line or the radius is one period long */
     int count; /* of stops, which stand evenly from 0 to 1 */
     struct color stops[STOPS_MAX];
 };
@@ -40,7 +53,10 @@ struct box {
 };
 extern const struct box boxes[BOXES];
 extern const char *const directions[DIRECTIONS];
+extern const struct period periods[PERIODS];
 struct picture make_picture(size_t width, size_t height, int direction, int count, bool opaque);
+struct picture make_repeated(size_t width, size_t height, int direction, int count, int period);
+struct picture make_one_color(size_t width, size_t height, int direction);
 
 struct reading {
     const char *name, *text;
@@ -57,10 +73,10 @@ struct painter {
     void (*end)(void);
     const char *(*version)(void); /* NULL for none to tell */
 };
-extern const struct painter library_painter, memset_painter, cairo_painter, qt_painter;
+extern const struct painter library_painter, once_painter, memset_painter, cairo_painter, qt_painter;
 
-/* The painters in the order of the table. One that was not built is NULL. */
-enum { LIBRARY, MEMSET, CAIRO, QT, PAINTERS };
+/* The painters in the order of the tables. One that was not built is NULL. */
+enum { LIBRARY, ONCE, MEMSET, CAIRO, QT, PAINTERS };
 extern const struct painter *const painters[PAINTERS];
 
 /* clock.c */
@@ -86,7 +102,7 @@ struct difference {
     double mean;  /* of the channel where it is greatest */
 };
 
-/* One line of the table. */
+/* One line of a table. */
 struct line {
     const struct picture *picture;
     double per_pixel[PAINTERS]; /* ns; 0 without the painter */
@@ -118,6 +134,7 @@ struct goal {
     double most;  /* that it should be; 0 for no goal */
 };
 struct goal make_goal(const struct measured *measured, int direction, int stops, int which);
+struct goal line_goal(const struct line *line, int painter); /* of a repeated picture or one of one color */
 bool missed(struct goal goal);
 
 /* report.c: the table to stdout, the same as JSON to a file if there is one. */
@@ -125,11 +142,16 @@ struct report {
     FILE *json;
     bool later;                  /* past the first item of a JSON list */
     double worst_mean[PAINTERS]; /* over all lines */
+    int misses;                  /* of goals, so far */
 };
 void report_machine(struct report *report, int rounds);
 void report_heading(struct report *report);
 void report_line(struct report *report, const struct line *line);
 void report_means(struct report *report, double allowed);
+void report_repeated_heading(struct report *report);
+void report_repeated(struct report *report, const struct line *line);
+void report_one_color_heading(struct report *report);
+void report_one_color(struct report *report, const struct line *line);
 void report_counts(struct report *report, const struct counts *counts);
 void report_readings(struct report *report, const double *ns, const struct counts *counts);
 void report_strips_heading(struct report *report);

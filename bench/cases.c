@@ -13,6 +13,8 @@
 #define ASIDE_X 30.3 /* percent: the center is in no middle of a pixel and on no edge of one */
 #define ASIDE_Y 41.7
 
+#define UNITS 64.0 /* to a px */
+
 const struct box boxes[BOXES] = {{64, 64}, {640, 480}, {2048, 64}, {2048, 2048}};
 
 const char *const directions[DIRECTIONS] = {
@@ -23,6 +25,8 @@ static const char *const heads[DIRECTIONS] = {
     "linear-gradient(to right",     "linear-gradient(to bottom", "linear-gradient(37.25deg",
     "linear-gradient(to top right", "radial-gradient(circle",    "radial-gradient(circle at 30.3% 41.7%",
 };
+
+const struct period periods[PERIODS] = {{"40px", 2560}, {"1px", 64}, {"0.016px", 1}};
 
 /* Steps of 14 to 44 levels from one stop to the next: steeper ones would make Qt's rounding along wide
  * rows, which grows from pixel to pixel, look like another picture. */
@@ -50,15 +54,28 @@ static void append(struct picture *p, const char *words) {
     p->text_length += length;
 }
 
-static void write_text(struct picture *p, const char *head) {
-    append(p, head);
+static void append_stops(struct picture *p) {
     for (int k = 0; k < p->count; k++) {
         struct color c = p->stops[k];
         char word[16];
         snprintf(word, sizeof word, ", #%02x%02x%02x%02x", c.red, c.green, c.blue, c.alpha);
         append(p, word);
+        if (p->period != NULL && k == 0)
+            append(p, " 0px");
+        if (p->period != NULL && k == p->count - 1) {
+            append(p, " ");
+            append(p, p->period->text);
+        }
     }
     append(p, ")");
+}
+
+static void set_stops(struct picture *p, int count, uint8_t alpha) {
+    p->count = count;
+    for (int k = 0; k < count; k++) {
+        uint32_t c = palette[k * (STOPS_MAX - 1) / (count - 1)];
+        p->stops[k] = (struct color){(uint8_t)(c >> 16), (uint8_t)(c >> 8), (uint8_t)c, alpha};
+    }
 }
 
 /* The line runs through the middle of the box along (x, y), y downward, as far as the corners ask. */
@@ -95,17 +112,46 @@ static void set_direction(struct picture *p, int direction) {
         set_circle(p, ASIDE_X, ASIDE_Y);
 }
 
-struct picture make_picture(size_t width, size_t height, int direction, int count, bool opaque) {
-    struct picture p = {.width = width,
-                        .height = height,
-                        .direction = directions[direction],
-                        .count = count,
-                        .opaque = opaque};
+/* Cuts the line or the radius to one period. */
+static void set_period(struct picture *p, const struct period *period) {
+    double length = period->units / UNITS, x = p->x1 - p->x0, y = p->y1 - p->y0;
+    p->period = period;
+    p->radius = length;
+    p->x1 = p->x0 + x * length / hypot(x, y);
+    p->y1 = p->y0 + y * length / hypot(x, y);
+}
+
+static struct picture begin_picture(size_t width, size_t height, int direction, int kind) {
+    struct picture p = {
+        .kind = kind, .width = width, .height = height, .direction = directions[direction], .opaque = true};
     set_direction(&p, direction);
-    for (int k = 0; k < count; k++) {
-        uint32_t c = palette[k * (STOPS_MAX - 1) / (count - 1)];
-        p.stops[k] = (struct color){(uint8_t)(c >> 16), (uint8_t)(c >> 8), (uint8_t)c, opaque ? 255 : 128};
-    }
-    write_text(&p, heads[direction]);
+    if (kind != PLAIN)
+        append(&p, REPEATING);
+    append(&p, heads[direction]);
+    return p;
+}
+
+struct picture make_picture(size_t width, size_t height, int direction, int count, bool opaque) {
+    struct picture p = begin_picture(width, height, direction, PLAIN);
+    p.opaque = opaque;
+    set_stops(&p, count, opaque ? 255 : 128);
+    append_stops(&p);
+    return p;
+}
+
+/* The first stop is at 0px, the last one period further, the others evenly between. */
+struct picture make_repeated(size_t width, size_t height, int direction, int count, int period) {
+    struct picture p = begin_picture(width, height, direction, REPEATED);
+    set_period(&p, &periods[period]);
+    set_stops(&p, count, 255);
+    append_stops(&p);
+    return p;
+}
+
+/* The period is 0. */
+struct picture make_one_color(size_t width, size_t height, int direction) {
+    struct picture p = begin_picture(width, height, direction, ONE_COLOR);
+    p.count = 3;
+    append(&p, ", red 0px, white 0px, blue 0px)");
     return p;
 }

@@ -46,6 +46,13 @@ struct goal make_goal(const struct measured *measured, int direction, int stops,
     return (struct goal){ratio(measured, direction, stops, which), most(direction, which)};
 }
 
+/* Repeated, a picture goes by the same with its stops once, and by cairo and Qt; of one color, by memset. */
+struct goal line_goal(const struct line *line, int painter) {
+    static const double most_of[PAINTERS] = {[ONCE] = 1.1, [MEMSET] = 1.5, [CAIRO] = 1, [QT] = 1};
+    double other = line->per_pixel[painter];
+    return (struct goal){other > 0 ? line->per_pixel[LIBRARY] / other : 0, most_of[painter]};
+}
+
 bool missed(struct goal goal) {
     return goal.most > 0 && goal.ratio > goal.most;
 }

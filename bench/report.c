@@ -31,6 +31,12 @@ static void json_figure(const struct report *report, const char *name, double fi
         json(report, "\"%s\": null", name);
 }
 
+/* With the period, where there is one. */
+static void json_period(const struct report *report, const struct picture *p) {
+    if (p->period != NULL)
+        json(report, ", \"period\": \"%s\"", p->period->text);
+}
+
 /* A figure in its column, or a dash. */
 static void column(int width, double figure) {
     if (figure > 0)
@@ -40,7 +46,8 @@ static void column(int width, double figure) {
 }
 
 static double ratio(const struct line *line, int painter) {
-    return painters[painter] == NULL ? 0 : line->per_pixel[LIBRARY] / line->per_pixel[painter];
+    double other = line->per_pixel[painter];
+    return other > 0 ? line->per_pixel[LIBRARY] / other : 0;
 }
 
 static const char *version(int painter) {
@@ -91,31 +98,33 @@ void report_heading(struct report *report) {
     json_list(report, "draw");
 }
 
+/* Up to the end of the item, which is left open. */
 static void json_line(struct report *report, const struct line *line) {
-    static const char *const names[PAINTERS] = {"library", "memset", "cairo", "qt"};
+    static const char *const names[PAINTERS] = {"library", "once", "memset", "cairo", "qt"};
     const struct picture *p = line->picture;
     json_item(report);
     json(report, "{\"width\": %zu, \"height\": %zu, \"direction\": \"%s\", \"stops\": %d, \"opaque\": %s",
          p->width, p->height, p->direction, p->count, p->opaque ? "true" : "false");
+    json_period(report, p);
     json(report, ", \"ns_per_pixel\": {");
     for (int k = 0; k < PAINTERS; k++) {
         json(report, k > 0 ? ", " : "");
         json_figure(report, names[k], line->per_pixel[k]);
     }
     json(report, "}, \"library_over\": {");
-    for (int k = MEMSET; k < PAINTERS; k++) {
-        json(report, k > MEMSET ? ", " : "");
+    for (int k = ONCE; k < PAINTERS; k++) {
+        json(report, k > ONCE ? ", " : "");
         json_figure(report, names[k], ratio(line, k));
     }
     json(report, "}, \"difference\": {");
     for (int k = CAIRO; k < PAINTERS; k++) {
         json(report, "%s\"%s\": ", k > CAIRO ? ", " : "", names[k]);
-        if (painters[k] != NULL)
+        if (line->per_pixel[k] > 0)
             json(report, "{\"greatest\": %d, \"mean\": %.4f}", line->off[k].greatest, line->off[k].mean);
         else
             json(report, "null");
     }
-    json(report, "}}");
+    json(report, "}");
 }
 
 void report_line(struct report *report, const struct line *line) {
@@ -141,6 +150,7 @@ void report_line(struct report *report, const struct line *line) {
     printf("\n");
     fflush(stdout);
     json_line(report, line);
+    json(report, "}");
 }
 
 void report_means(struct report *report, double allowed) {
@@ -151,8 +161,87 @@ void report_means(struct report *report, double allowed) {
                    painters[k]->name, report->worst_mean[k], allowed);
 }
 
+static void column_goal(struct goal goal) {
+    column(8, goal.ratio);
+    if (goal.most > 0 && goal.ratio > 0)
+        printf("%s of %.2f", missed(goal) ? "!" : " ", goal.most);
+    else
+        printf("%9s", "");
+}
+
+static void json_goal(struct report *report, const char *name, struct goal goal) {
+    json(report, ", \"%s\": {", name);
+    json_figure(report, "ratio", goal.ratio);
+    json(report, ", ");
+    json_figure(report, "most", goal.most);
+    json(report, ", \"missed\": %s}", missed(goal) ? "true" : "false");
+}
+
+/* A goal with its column, counted where it is missed. */
+static void report_goal(struct report *report, const char *name, struct goal goal) {
+    column_goal(goal);
+    json_goal(report, name, goal);
+    report->misses += missed(goal);
+}
+
+void report_repeated_heading(struct report *report) {
+    json_list(report, "repeated");
+    printf("\nREPEATED, beside the same picture not repeated (once); ratios, each of the most that it should "
+           "be; ! where it is more\n");
+    printf("%-39s%32s%41s%26s\n", "", "ns per pixel", "ratio library to", "mean difference");
+    printf("%-11s%-14s%5s%9s%8s%8s%8s%8s", "box", "direction", "stops", "period", "library", "once", "cairo",
+           "Qt");
+    printf("%8s%17s%17s%17s%8s\n", "once", "cairo", "Qt", "cairo", "Qt");
+}
+
+void report_repeated(struct report *report, const struct line *line) {
+    const struct picture *p = line->picture;
+    char box[32];
+    snprintf(box, sizeof box, "%zux%zu", p->width, p->height);
+    printf("%-11s%-14s%5d%9s", box, p->direction, p->count, p->period->text);
+    column(8, line->per_pixel[LIBRARY]);
+    column(8, line->per_pixel[ONCE]);
+    column(8, line->per_pixel[CAIRO]);
+    column(8, line->per_pixel[QT]);
+    json_line(report, line);
+    report_goal(report, "to once", line_goal(line, ONCE));
+    report_goal(report, "to cairo", line_goal(line, CAIRO));
+    report_goal(report, "to qt", line_goal(line, QT));
+    for (int k = CAIRO; k < PAINTERS; k++)
+        if (line->per_pixel[k] > 0)
+            printf("%8.2f", line->off[k].mean);
+        else
+            printf("%8s", "-");
+    printf("\n");
+    fflush(stdout);
+    json(report, "}");
+}
+
+void report_one_color_heading(struct report *report) {
+    json(report, "\n  ]");
+    json_list(report, "one_color");
+    printf("\nONE COLOR: repeated stops at one place\n");
+    printf("%-30s%16s%17s\n", "", "ns per pixel", "ratio library to");
+    printf("%-11s%-14s%5s%8s%8s%8s\n", "box", "direction", "stops", "library", "memset", "memset");
+}
+
+void report_one_color(struct report *report, const struct line *line) {
+    const struct picture *p = line->picture;
+    char box[32];
+    snprintf(box, sizeof box, "%zux%zu", p->width, p->height);
+    printf("%-11s%-14s%5d", box, p->direction, p->count);
+    column(8, line->per_pixel[LIBRARY]);
+    column(8, line->per_pixel[MEMSET]);
+    json_line(report, line);
+    report_goal(report, "to memset", line_goal(line, MEMSET));
+    printf("\n");
+    fflush(stdout);
+    json(report, "}");
+}
+
 void report_counts(struct report *report, const struct counts *counts) {
     const double area = COUNT_WIDTH * COUNT_HEIGHT;
+    json(report, "\n  ]");
     json_list(report, "instructions_per_pixel");
     printf("\nINSTRUCTIONS per pixel of the library at %dx%d, as callgrind counts\n", COUNT_WIDTH,
            COUNT_HEIGHT);
@@ -201,14 +290,15 @@ static void json_picture(struct report *report, const struct picture *p) {
     json_item(report);
     json(report, "{\"width\": %zu, \"height\": %zu, \"direction\": \"%s\", \"stops\": %d", p->width,
          p->height, p->direction, p->count);
+    json_period(report, p);
 }
 
 void report_strips_heading(struct report *report) {
     json_list(report, "strips");
     printf("\nSTRIPS of %zux%zu (avarezhu_draw_rows), beside the picture drawn whole (avarezhu_draw)\n",
            boxes[WHOLE].width, boxes[WHOLE].height);
-    printf("%-19s%40s%32s\n", "", "ns per pixel", "ratio strips to whole");
-    printf("%-14s%5s", "direction", "stops");
+    printf("%-27s%40s%32s\n", "", "ns per pixel", "ratio strips to whole");
+    printf("%-14s%5s%8s", "direction", "stops", "period");
     for (int way = 0; way < WAYS; way++)
         printf("%10s", ways[way]);
     for (int way = ROWS_64; way < WAYS; way++)
@@ -217,7 +307,7 @@ void report_strips_heading(struct report *report) {
 }
 
 void report_strips(struct report *report, const struct picture *picture, const double per_pixel[WAYS]) {
-    printf("%-14s%5d", picture->direction, picture->count);
+    printf("%-14s%5d%8s", picture->direction, picture->count, picture->period ? picture->period->text : "");
     json_picture(report, picture);
     json(report, ", \"ns_per_pixel\": {");
     for (int way = 0; way < WAYS; way++) {
@@ -268,24 +358,9 @@ void report_threads(struct report *report, const struct picture *picture, const 
     json(report, "}");
 }
 
-static void column_goal(struct goal goal) {
-    column(8, goal.ratio);
-    if (goal.most > 0 && goal.ratio > 0)
-        printf("%s of %.2f", missed(goal) ? "!" : " ", goal.most);
-    else
-        printf("%9s", "");
-}
-
-static void json_goal(struct report *report, const char *name, struct goal goal) {
-    json(report, ", \"%s\": {", name);
-    json_figure(report, "ratio", goal.ratio);
-    json(report, ", ");
-    json_figure(report, "most", goal.most);
-    json(report, ", \"missed\": %s}", missed(goal) ? "true" : "false");
-}
-
-/* One line of the goals: how many of them are missed. */
-static int report_goal(struct report *report, const struct measured *measured, int direction, int stops) {
+/* One line of the goals. */
+static void report_goals_of(struct report *report, const struct measured *measured, int direction,
+                            int stops) {
     static const char *const names[GOALS] = {
         "to qt",
         "to cairo",
@@ -295,23 +370,16 @@ static int report_goal(struct report *report, const struct measured *measured, i
         "2048x64 to 2048x2048",
         "64 rows to whole",
     };
-    int misses = 0;
     printf("%-14s%5d", directions[direction], stops);
     json_item(report);
     json(report, "{\"direction\": \"%s\", \"stops\": %d", directions[direction], stops);
-    for (int which = 0; which < GOALS; which++) {
-        struct goal goal = make_goal(measured, direction, stops, which);
-        column_goal(goal);
-        json_goal(report, names[which], goal);
-        misses += missed(goal);
-    }
+    for (int which = 0; which < GOALS; which++)
+        report_goal(report, names[which], make_goal(measured, direction, stops, which));
     printf("\n");
     json(report, "}");
-    return misses;
 }
 
 void report_goals(struct report *report, const struct measured *measured) {
-    int misses = 0;
     json(report, "\n  ]");
     json_list(report, "goals");
     printf(
@@ -321,9 +389,9 @@ void report_goals(struct report *report, const struct measured *measured) {
     printf("%-14s%5s%8s%17s%17s", "direction", "stops", "Qt", "cairo", "memset");
     printf("%17s%17s%17s%17s\n", "Qt", "640x480", "2048x64", "64 rows");
     for (int direction = 0; direction < DIRECTIONS; direction++) {
-        misses += report_goal(report, measured, direction, 2);
-        misses += report_goal(report, measured, direction, STOPS_MAX);
+        report_goals_of(report, measured, direction, 2);
+        report_goals_of(report, measured, direction, STOPS_MAX);
     }
-    printf("missed: %d\n", misses);
+    printf("missed, with those of repeated pictures and of one color: %d\n", report->misses);
     json(report, "\n  ]\n}\n");
 }

@@ -1,5 +1,6 @@
 /*
- * Times the library, memset, cairo and Qt on the same pictures, the reading of texts, and drawing in strips.
+ * Times the library, memset, cairo and Qt on the same pictures, repeated ones beside the same not repeated,
+ * the reading of texts, and drawing in strips.
  * They take turns: each round times all of them once, and the least of the rounds is kept for each.
  *
  *     timing full|quick COUNTS JSON    COUNTS holds the names of count.c, each with its instructions
@@ -29,6 +30,7 @@ enum { FULL_ROUNDS = 15, QUICK_ROUNDS = 3 };
 #endif
 const struct painter *const painters[PAINTERS] = {
     &library_painter,
+    &once_painter,
     &memset_painter,
     CAIRO_PAINTER,
     QT_PAINTER,
@@ -68,6 +70,22 @@ static bool spread_out(void) {
     return CPU_COUNT(&processors) > 1 && sched_setaffinity(0, sizeof processors, &processors) == 0;
 }
 
+/* Whether a painter was built and has a part in pictures of this kind. */
+static bool takes_turns(int painter, const struct picture *p) {
+    static const bool asked[KINDS][PAINTERS] = {
+        [PLAIN] = {[LIBRARY] = true, [MEMSET] = true, [CAIRO] = true, [QT] = true},
+        [REPEATED] = {[LIBRARY] = true, [ONCE] = true, [CAIRO] = true, [QT] = true},
+        [ONE_COLOR] = {[LIBRARY] = true, [MEMSET] = true},
+    };
+    return painters[painter] != NULL && asked[p->kind][painter];
+}
+
+/* The library takes locations down to 1/64 px, the others do not. Where a period is not many times that, they
+ * draw other colors. */
+static bool must_agree(const struct picture *p) {
+    return p->period == NULL || p->period->units >= periods[FORTY_PX].units;
+}
+
 static struct difference compare(const struct picture *p, bool blue_first) {
     static const int straight[4] = {0, 1, 2, 3}, swapped[4] = {2, 1, 0, 3};
     const int *order = blue_first ? swapped : straight;
@@ -95,12 +113,12 @@ static void check(struct line *line) {
     painters[LIBRARY]->draw();
     memcpy(reference, pixels, size);
     for (int k = CAIRO; k < PAINTERS; k++) {
-        if (painters[k] == NULL)
+        if (!takes_turns(k, p))
             continue;
         memset(pixels, 0, size);
         painters[k]->draw();
         line->off[k] = compare(p, painters[k]->blue_first);
-        if (line->off[k].mean <= MEAN_MAX)
+        if (line->off[k].mean <= MEAN_MAX || !must_agree(p))
             continue;
         fprintf(stderr, "%s draws another picture: mean difference %.2f in %zux%zu, %.*s\n",
                 painters[k]->name, line->off[k].mean, p->width, p->height, (int)p->text_length, p->text);
@@ -112,18 +130,18 @@ static struct line time_picture(const struct picture *p, int rounds) {
     struct line line = {.picture = p};
     long batch[PAINTERS];
     for (int k = 0; k < PAINTERS; k++)
-        if (painters[k] != NULL)
+        if (takes_turns(k, p))
             painters[k]->begin(p, pixels);
     check(&line);
     for (int k = 0; k < PAINTERS; k++)
-        if (painters[k] != NULL)
+        if (takes_turns(k, p))
             batch[k] = batch_for(painters[k]->draw);
     for (int round = 0; round < rounds; round++)
         for (int k = 0; k < PAINTERS; k++)
-            if (painters[k] != NULL)
+            if (takes_turns(k, p))
                 line.per_pixel[k] = least_of_round(line.per_pixel[k], painters[k]->draw, batch[k]);
     for (int k = 0; k < PAINTERS; k++) {
-        if (painters[k] != NULL)
+        if (takes_turns(k, p))
             painters[k]->end();
         line.per_pixel[k] /= (double)(p->width * p->height);
     }
@@ -142,7 +160,58 @@ static struct times time_box(struct report *report, struct box box, bool opaque,
     return times;
 }
 
+/* The stops must be placed one period apart. */
+static void check_period(const struct picture *p) {
+    avarezhu_stops placed;
+    uint32_t reply =
+        avarezhu_place(p->text, p->text_length, p->width, p->height, (uint8_t *)&placed, sizeof placed);
+    if (reply != AVAREZHU_DONE ||
+        placed.stops[placed.count - 1].position - placed.stops[0].position != p->period->units)
+        fail("the stops of a repeated picture are not one period apart");
+}
+
+static void time_repeated(struct report *report, struct box box, int direction, int stops, int period,
+                          int rounds) {
+    struct picture p = make_repeated(box.width, box.height, direction, stops, period);
+    check_period(&p);
+    struct line line = time_picture(&p, rounds);
+    report_repeated(report, &line);
+}
+
+/* Toward a corner also with all stops: there the library has no table, and goes from stop to stop. */
+static void time_all_repeated(struct report *report, int rounds) {
+    report_repeated_heading(report);
+    for (int box = MIDDLE; box <= WHOLE; box += WHOLE - MIDDLE)
+        for (int direction = TO_RIGHT; direction <= CIRCLE; direction++) {
+            for (int period = 0; period < PERIODS; period++)
+                time_repeated(report, boxes[box], direction, 2, period, rounds);
+            if (direction == TO_CORNER)
+                time_repeated(report, boxes[box], direction, STOPS_MAX, FORTY_PX, rounds);
+        }
+}
+
+/* Red, white and blue, averaged over equal distances: half of each end, and all of the middle. */
+static void check_average(const struct picture *p) {
+    static const uint8_t average[4] = {191, 128, 191, 255};
+    for (size_t k = 0; k < p->width * p->height; k++)
+        if (memcmp(reference + 4 * k, average, sizeof average) != 0)
+            fail("a picture of one color is not of the average color");
+}
+
+static void time_one_colors(struct report *report, int rounds) {
+    report_one_color_heading(report);
+    for (int box = MIDDLE; box <= WHOLE; box += WHOLE - MIDDLE)
+        for (int direction = BY_ANGLE; direction <= CIRCLE; direction += CIRCLE - BY_ANGLE) {
+            struct picture p = make_one_color(boxes[box].width, boxes[box].height, direction);
+            struct line line = time_picture(&p, rounds);
+            check_average(&p);
+            report_one_color(report, &line);
+        }
+}
+
 static void time_all_strips(struct report *report, struct measured *measured, int rounds) {
+    struct picture repeated = make_repeated(boxes[WHOLE].width, boxes[WHOLE].height, BY_ANGLE, 2, FORTY_PX);
+    double of_repeated[WAYS];
     report_strips_heading(report);
     for (int direction = 0; direction < DIRECTIONS; direction++)
         for (int stops = 2; stops <= STOPS_MAX; stops += STOPS_MAX - 2) {
@@ -151,6 +220,8 @@ static void time_all_strips(struct report *report, struct measured *measured, in
             time_strips(&p, pixels, reference, rounds, per_pixel);
             report_strips(report, &p, per_pixel);
         }
+    time_strips(&repeated, pixels, reference, rounds, of_repeated);
+    report_strips(report, &repeated, of_repeated);
 }
 
 static void time_all_threads(struct report *report, int rounds) {
@@ -208,7 +279,7 @@ static struct counts load_counts(const char *path) {
 
 static void time_all(struct report *report, bool quick, const char *counts_path) {
     static struct measured measured;
-    int rounds = quick ? QUICK_ROUNDS : FULL_ROUNDS;
+    int rounds = quick ? QUICK_ROUNDS : FULL_ROUNDS, half = (rounds + 1) / 2;
     struct counts counts = load_counts(counts_path);
     double ns[READINGS] = {0};
     report_machine(report, rounds);
@@ -218,6 +289,8 @@ static void time_all(struct report *report, bool quick, const char *counts_path)
     if (!quick)
         time_box(report, boxes[MIDDLE], false, rounds);
     report_means(report, MEAN_MAX);
+    time_all_repeated(report, half);
+    time_one_colors(report, half);
     report_counts(report, &counts);
     time_readings(ns, rounds);
     report_readings(report, ns, &counts);

@@ -35,6 +35,8 @@ static void draw(void) {
         cairo_pattern_add_color_stop_rgba(pattern, k / (p->count - 1.0), c.red / 255.0, c.green / 255.0,
                                           c.blue / 255.0, c.alpha / 255.0);
     }
+    if (p->kind == REPEATED)
+        cairo_pattern_set_extend(pattern, CAIRO_EXTEND_REPEAT);
     cairo_set_source(context, pattern);
     cairo_paint(context);
     cairo_pattern_destroy(pattern);

@@ -32,14 +32,19 @@ void paint(QGradient &&gradient) {
         stops.append({k / (shown->count - 1.0), QColor(c.red, c.green, c.blue, c.alpha)});
     }
     gradient.setStops(stops);
+    if (shown->kind == REPEATED)
+        gradient.setSpread(QGradient::RepeatSpread);
     hand->fillRect(0, 0, int(shown->width), int(shown->height), QBrush(gradient));
 }
 
+// To a line Qt has 1023 steps of its table, and it repeats after 1024: the line is made shorter by so much.
 void draw() {
-    if (shown->circle)
-        paint(QRadialGradient(shown->x0, shown->y0, shown->radius));
+    const picture &p = *shown;
+    double part = p.kind == REPEATED ? 1023.0 / 1024 : 1;
+    if (p.circle)
+        paint(QRadialGradient(p.x0, p.y0, part * p.radius));
     else
-        paint(QLinearGradient(shown->x0, shown->y0, shown->x1, shown->y1));
+        paint(QLinearGradient(p.x0, p.y0, p.x0 + part * (p.x1 - p.x0), p.y0 + part * (p.y1 - p.y0)));
 }
 
 void end() {

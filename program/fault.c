@@ -7,7 +7,9 @@
 
 /* ---- what may stand at each place */
 
-static const char name_allowed[] = "linear-gradient or radial-gradient, and at once its bracket: linear-gradient(red, blue)";
+static const char name_allowed[] =
+    "linear-gradient, radial-gradient, repeating-linear-gradient or repeating-radial-gradient,\n"
+    "  and at once its bracket: linear-gradient(red, blue)";
 static const char nothing_allowed[] = "nothing but white space";
 static const char direction_allowed[] =
     "to left, to right, to top or to bottom, a corner as to top right, or an angle as 45deg";

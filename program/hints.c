@@ -51,7 +51,6 @@ static const struct known behind[] = {
 /* Starts of functions' names. */
 static const struct known functions[] = {
     {"repeating-conic-gradient", "conic gradients are not taken"},
-    {"repeating-", "repeating gradients are not taken yet; write the stops out"},
     {"conic-gradient", "conic gradients are not taken"},
     {"-", "write the name without its prefix; directions there lacked the word to and named the side to start from"},
     {"url", "images by address are not taken"},

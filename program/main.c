@@ -170,7 +170,7 @@ static enum status run_check(const struct request *r)
         return TROUBLE;
     reply = avarezhu_read(text, length, (uint8_t *)&gradient, sizeof gradient);
     if (reply == AVAREZHU_DONE) {
-        printf("accepted: %lu stops\n", (unsigned long)gradient.count);
+        printf("accepted: %lu stops%s\n", (unsigned long)gradient.count, gradient.repeating ? ", repeating" : "");
         return DONE;
     }
     explain_text(stdout, reply, between(text, text + length), input_name(name));

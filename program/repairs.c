@@ -50,18 +50,24 @@ static int offer_before(FILE *to, const struct outline *o, const struct fault *f
 
 /* ---- commas and blanks */
 
+/* Adds the words of `s`, with `insert` in the place of all white space between them. */
+static void add_joined(struct draft *d, struct slice s, const char *insert)
+{
+    struct slice word = first_word(s);
+    while (word.length > 0) {
+        s = rest_after(s, word);
+        add(d, word);
+        add_string(d, s.length > 0 ? insert : "");
+        word = first_word(s);
+    }
+}
+
 static int comma_missing(FILE *to, const struct outline *o, const struct fault *f)
 {
     struct draft d = {{0}, 0};
-    struct slice rest = f->item, word = first_word(rest);
     if (offer_at_blanks(to, o, f, "a comma is missing", ", "))
         return 1;
-    while (word.length > 0) {
-        rest = rest_after(rest, word);
-        add(&d, word);
-        add_string(&d, rest.length > 0 ? ", " : "");
-        word = first_word(rest);
-    }
+    add_joined(&d, f->item, ", ");
     return offer(to, o, f, "commas are missing", &d);
 }
 
@@ -200,7 +206,9 @@ static int belongs_first(FILE *to, const struct outline *o, const struct fault *
 static int belongs_elsewhere(FILE *to, const struct outline *o, const struct fault *f)
 {
     struct draft d = {{0}, 0};
+    const char *repeating = starts_with(o->name, "repeating-") ? "repeating-" : "";
     const char *other = o->is_linear ? "radial-gradient" : "linear-gradient";
+    add_string(&d, repeating);
     add_string(&d, other);
     add_string(&d, "(");
     add(&d, f->item);
@@ -209,7 +217,7 @@ static int belongs_elsewhere(FILE *to, const struct outline *o, const struct fau
         return 0;
     fputs("Hint: ", to);
     show_part(to, f->item);
-    fprintf(to, " belongs to %s.\n", other);
+    fprintf(to, " belongs to %s%s.\n", repeating, other);
     return 1;
 }
 
@@ -226,12 +234,13 @@ static int circle_missing(FILE *to, const struct outline *o, const struct fault 
 
 /* ---- spelling */
 
-enum { LONGEST = 24 };
+enum { LONGEST = 28 }; /* the letters of the longest word that is taken, and three more */
 
 static const char *const words_taken[] = {
     "aqua", "black", "blue", "fuchsia", "gray", "green", "lime", "maroon", "navy", "olive", "purple", "red", "silver",
     "teal", "white", "yellow", "transparent", "to", "left", "right", "top", "bottom", "center", "circle", "at",
     "closest-side", "closest-corner", "farthest-side", "farthest-corner", "linear-gradient", "radial-gradient",
+    "repeating-linear-gradient", "repeating-radial-gradient",
 };
 
 static size_t least(size_t a, size_t b)
@@ -289,6 +298,28 @@ static int misspelled(FILE *to, const struct outline *o, const struct fault *f)
     return 0;
 }
 
+/* ---- names */
+
+/* Each run of white space before the name, and in what stands there, as a hyphen. */
+static int hyphen_missing(FILE *to, const struct outline *o)
+{
+    struct draft d = {{0}, 0};
+    add_joined(&d, between(o->before.at, end_of(o->name)), "-");
+    if (reply_to_name(drafted(&d)) != AVAREZHU_DONE)
+        return 0;
+    fputs("Hint: a hyphen is missing: ", to);
+    show_part(to, drafted(&d));
+    fputc('\n', to);
+    return 1;
+}
+
+static int name_wrong(FILE *to, const struct outline *o, const struct fault *f)
+{
+    if (o->before.length > 0 && f->mark.at == o->before.at)
+        return hyphen_missing(to, o);
+    return f->mark.length > 0 && f->mark.at == o->name.at && spelled(to, o, f, o->name, 3);
+}
+
 /* ---- all of them, the likelier first */
 
 int give_repair(FILE *to, const struct outline *o, const struct fault *f)
@@ -300,7 +331,7 @@ int give_repair(FILE *to, const struct outline *o, const struct fault *f)
     };
     size_t i;
     if (f->index == NO_ITEM)
-        return f->mark.at == o->name.at && f->mark.length > 0 && spelled(to, o, f, o->name, 3);
+        return name_wrong(to, o, f);
     for (i = 0; i < sizeof repairs / sizeof *repairs; i++)
         if (repairs[i](to, o, f))
             return 1;

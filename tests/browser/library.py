@@ -34,12 +34,15 @@ class Chart:
     def __init__(self, width, height, gradient, stops, pixels):
         self.width, self.height, self.pixels = width, height, pixels
         words = struct.unpack_from("<4Ii2Ii2IIi2Ii", gradient)
-        self.circle, self.direction, self.angle = words[1], words[3], words[4]
+        self.circle, self.repeating, self.direction, self.angle = words[1:5]
         self.center = words[10:12], words[13:15]
         self.written = [struct.unpack_from("<Ii", gradient, 68 + 16 * k) for k in range(words[0])]
         self.colors = [stops[4 + 8 * k : 8 + 8 * k] for k in range(stops[0])]
         self.positions = [struct.unpack_from("<i", stops, 8 + 8 * k)[0] for k in range(stops[0])]
         self.shared = {a for a, b in zip(self.positions, self.positions[1:]) if a == b}
+        if self.repeating:
+            # Where a period ends the next one begins: the last stop of one and the first of the other share that place.
+            self.shared |= {self.positions[0], self.positions[-1]}
 
     def vector(self):
         """The direction of a line."""
@@ -70,6 +73,19 @@ class Chart:
             for i in range(self.width):
                 yield math.isqrt((64 * i + 32 - x) ** 2 + (64 * j + 32 - y) ** 2)
 
+    def one_color(self, positions=None):
+        """Whether the picture has the average color: the gradient repeats, with a period of 0."""
+        positions = positions or self.positions
+        return self.repeating and positions[0] == positions[-1]
+
+    def moved(self, location, positions=None):
+        """The location by which a pixel is colored: where the gradient repeats, from the first stop up to the last."""
+        positions = positions or self.positions
+        if not self.repeating or self.one_color(positions):
+            return location
+        first, last = positions[0], positions[-1]
+        return first + (location - first) % (last - first)
+
     def around(self, location, positions=None):
         """The stops on both sides of a location, by their numbers; the same one twice where only one counts."""
         positions = positions or self.positions
@@ -78,11 +94,20 @@ class Chart:
 
     def color(self, location, positions):
         """The four exact channels of the color at a location, with the stops at these positions."""
+        if self.one_color(positions):
+            return self.average()
+        location = self.moved(location, positions)
         low, high = self.around(location, positions)
         a, b = positions[low], positions[high]
         share = Fraction(location - a) / (b - a) if low != high and a <= location else Fraction(0)
         first, second = premultiplied(self.colors[low]), premultiplied(self.colors[high])
         return [p + (q - p) * share for p, q in zip(first, second)]
+
+    def average(self):
+        """The average color with equally spaced stops: of two neighbors both count, each with half of their distance."""
+        colors = [premultiplied(color) for color in self.colors]
+        doubled = colors[0], *(color for color in colors[1:-1] for _ in range(2)), colors[-1]
+        return [sum(channel) / len(doubled) for channel in zip(*doubled)]
 
     def before_rounding(self, length):
         """The place of each stop before any rounding, on a line of this length."""

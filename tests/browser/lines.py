@@ -12,6 +12,8 @@ levels off after 200 pixels.)
 Beside a stop that the grid of 1/64 px moved there are two exact colors: the library's is for the stop on the grid, a browser's for the stop
 as it is written. There each is judged by its own, and a mean is not compared with the library's byte. No stop may be moved further than
 rounding to the nearest unit can: half a unit, or one where a stop without a position lies between two that are rounded too.
+
+Where a gradient repeats, the stops on the grid are repeated with their period, those as they are written with theirs.
 """
 from fractions import Fraction
 

@@ -7,7 +7,13 @@ COLUMNS = ["equal", "1 apart", "further", "close", "edge", "departs"]
 
 
 def kind(chart, location):
-    """Why a pixel is left out, or None: near two stops in one place, or between stops that are less than 8 px apart."""
+    """Why a pixel is left out, or None: near two stops in one place, or between stops that are less than 8 px apart.
+
+    Where the gradient repeats these are its repeated stops. One color has no place that matters.
+    """
+    if chart.one_color():
+        return None
+    location = chart.moved(location)
     if any(abs(location - place) < 32 for place in chart.shared):
         return "edge"
     low, high = chart.around(location)

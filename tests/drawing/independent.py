@@ -61,11 +61,50 @@ STRIPS = [
     (2, 2, 1, 2, 9, TEXT[:-1]),
 ]
 
-# What document 01 itself says of three of them (P1, P2 and P9): the bytes from the start on.
+# As CHARTS: gradients that repeat.
+REPEATING = [
+    (8, 1, 32, "repeating-linear-gradient(to right, black, white 4px)"),
+    (8, 1, 32, "repeating-linear-gradient(to right, red -3px, blue -1px)"),
+    (1, 8, 32, "repeating-linear-gradient(red -1.5px, lime 1px, blue 2.5px)"),
+    (4, 4, 64, "repeating-linear-gradient(45deg, black, white 1px)"),
+    (6, 2, 48, "repeating-linear-gradient(to right, red, lime 0.008px, blue 0.016px)"),
+    (4, 4, 64, "repeating-linear-gradient(to bottom right, red, blue 0.016px, white 0.031px)"),
+    (4, 2, 36, "repeating-linear-gradient(red 0, white 0, blue 0)"),
+    (2, 2, 16, "repeating-radial-gradient(circle at 1px 1px, red 7px, #0f08 5px, transparent 2px)"),
+    (3, 3, 36, "repeating-radial-gradient(0px at 1.5px 1.5px, white, #123, #4567)"),
+    (4, 4, 64, "repeating-radial-gradient(circle at 0 0, black, white 2px)"),
+    (4, 4, 64, "repeating-radial-gradient(circle closest-side, red -30%, #00f8 1px, lime 90%)"),
+    (4, 4, 64, "repeating-radial-gradient(1px, aqua, yellow)"),
+    (8, 1, 32, "repeating-linear-gradient(to left, #f00 50%, #f00 75%, #00f 75%, #00f)"),
+    (16, 1, 64, "repeating-linear-gradient(to right, red 100px, transparent 102px, blue 105px)"),
+    (8, 1, 40, "repeating-linear-gradient(to right, #ff000080, #00ff0000 1.5px, #0000ff40 3px)"),
+    (1, 16, 64, "REPEATING-LINEAR-GRADIENT(0DEG, #012 -40px, #fed 60px)"),
+    (4, 4, 64, "repeating-linear-gradient(200.25deg, red 2px, white 0px, #00f8 4px)"),
+    (2, 1, 8, "repeating-linear-gradient(to right, #000, #fff .5px)"),
+    (3, 1, 12, "repeating-linear-gradient(to right, #000 -.5px, #fff)"),
+    (1, 1, 6, "repeating-linear-gradient(red)"),
+    (1, 1, 6, "repeating-radial-gradient(red, blue)"),
+    (1, 1, 6, "repeating -linear-gradient(red, blue)"),
+    (1, 1, 6, "repeating-linear-gradient(45.1deg, red, blue 5px)"),
+    (2, 2, 15, "repeating-linear-gradient(red, blue)"),
+]
+
+# As STRIPS.
+REPEATING_STRIPS = [
+    (3, 4, 1, 3, 26, "repeating-linear-gradient(to top right, black, white 1.5px)"),
+    (1, 16, 6, 14, 32, "repeating-linear-gradient(red -40%, white, blue 10%)"),
+    (4, 4, 2, 4, 32, "repeating-radial-gradient(circle closest-side at 30% 40%, red, lime .5px, blue .5px, #1234 1px)"),
+    (2, 2000, 999, 1001, 16, "repeating-radial-gradient(circle, red, blue 2px)"),
+    (2, 2, 1, 2, 8, "repeating-linear-gradient(red 3px, white 3px, transparent 3px)"),
+    (2, 2, 1, 1, 8, "repeating-linear-gradient(red, blue)"),
+]
+
+# What the documents themselves say of four of them (P1, P2, P9 and T-01's average): the bytes from the start on.
 STATED = {
-    0: [32, 32, 32, 255, 96, 96, 96, 255, 159, 159, 159, 255, 223, 223, 223, 255],
-    1: [191, 0, 0, 191, 64, 0, 0, 64],
-    6: [255, 85, 0, 255],
+    CHARTS[0]: [32, 32, 32, 255, 96, 96, 96, 255, 159, 159, 159, 255, 223, 223, 223, 255],
+    CHARTS[1]: [191, 0, 0, 191, 64, 0, 0, 64],
+    CHARTS[6]: [255, 85, 0, 255],
+    REPEATING[6]: [191, 128, 191, 255] * 8,
 }
 
 SIDES = {"top": (0, -1), "right": (1, 0), "bottom": (0, 1), "left": (-1, 0)}
@@ -114,6 +153,8 @@ class Circle:
         sides = [(abs(c), abs(64 * pixels - c)) for c, pixels in zip(self.center, (width, height))]
         extents = {
             "closest-side": min(map(min, sides)),
+            "farthest-side": max(map(max, sides)),
+            "closest-corner": math.isqrt(sum(min(pair) ** 2 for pair in sides)),
             "farthest-corner": math.isqrt(sum(max(pair) ** 2 for pair in sides)),
         }
         self.length = extents[size] if size in extents else units(size, 0)
@@ -146,6 +187,22 @@ def pixel(stops, s):
     return [nearest(channel) for channel in channels]
 
 
+def moved(stops, s):
+    """A location, moved by whole periods until it lies from the first stop up to, not including, the last."""
+    first, last = stops[0][0], stops[-1][0]
+    return first + (s - first) % (last - first)
+
+
+def average(stops):
+    """Four bytes: document 003's average color of a gradient, its stops equally spaced on a line of length 1."""
+    total = [Fraction(0)] * 4
+    weight = Fraction(1, len(stops) - 1) / 2
+    for pair in zip(stops, stops[1:]):
+        for _, channels in pair:
+            total = [t + weight * Fraction(p, 255) for t, p in zip(total, channels)]
+    return [nearest(channel) for channel in total]
+
+
 def premultiplied(digits):
     *color, alpha = bytes.fromhex(digits)
     return [channel * alpha for channel in color] + [255 * alpha]
@@ -153,12 +210,16 @@ def premultiplied(digits):
 
 def rows(line, width, height, first, end):
     head, *stops = line[2:].split(" | ")
+    repeating, head = head.startswith("repeating "), head.removeprefix("repeating ")
     kind, *words = head.split()
     shape = (Linear if kind == "linear" else Circle)(words, width, height)
     written = [(stop.split() + [None])[:2] for stop in stops]
     placed = place([position for _, position in written], shape.length)
     stops = [(position, premultiplied(color[1:])) for position, (color, _) in zip(placed, written)]
-    return [byte for j in range(first, end) for i in range(width) for byte in pixel(stops, shape.location(i, j))]
+    if repeating and placed[0] == placed[-1]:
+        return average(stops) * width * (end - first)
+    where = [shape.location(i, j) for j in range(first, end) for i in range(width)]
+    return [byte for s in where for byte in pixel(stops, moved(stops, s) if repeating else s)]
 
 
 def draw(width, height, first, end, room, text):
@@ -176,17 +237,28 @@ def draw(width, height, first, end, room, text):
     return 0, drawn + [0] * (room - len(drawn))
 
 
-def lines():
-    for k, (width, height, room, text) in enumerate(CHARTS):
+def whole(charts):
+    for chart in charts:
+        width, height, room, text = chart
         reply, left = draw(width, height, 0, height, room, text)
-        stated = STATED.get(k, [])
-        assert left[: len(stated)] == stated, f"chart {k} is not what document 01 says"
+        stated = STATED.get(chart, [])
+        assert left[: len(stated)] == stated, f"{text} is not what the documents say"
         yield f"{width}x{height} in {room} {text}"
         yield f"{reply}:" + "".join(f" {byte}" for byte in left)
-    for width, height, first, end, room, text in STRIPS:
+
+
+def cut(strips):
+    for width, height, first, end, room, text in strips:
         reply, left = draw(width, height, first, end, room, text)
         yield f"rows {first} up to {end} of {width}x{height} in {room} {text}"
         yield f"{reply}:" + "".join(f" {byte}" for byte in left)
+
+
+def lines():
+    yield from whole(CHARTS)
+    yield from cut(STRIPS)
+    yield from whole(REPEATING)
+    yield from cut(REPEATING_STRIPS)
 
 
 def main():
@@ -201,7 +273,7 @@ def main():
     if differing or len(found) != len(expected):
         print(f"drawing: {len(differing)} lines differ; {len(found)} lines from the rules, {len(expected)} in the file")
         return 1
-    print(f"drawing: {len(CHARTS)} charts and {len(STRIPS)} strips agree")
+    print(f"drawing: {len(CHARTS + REPEATING)} charts and {len(STRIPS + REPEATING_STRIPS)} strips agree")
     return 0
 
 

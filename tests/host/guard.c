@@ -281,7 +281,8 @@ static void try_call(const struct call *c)
 
 /*
  * The first `edge` pixels of each row, or the first rows, have the bytes `before`, the others `after`;
- * stops and gradient are the same bytes in every box.
+ * where `period` is not 0, so have those of each `period` pixels or rows. Stops and gradient are the
+ * same bytes in every box.
  */
 struct chart {
     const char *text;
@@ -289,6 +290,7 @@ struct chart {
     uint8_t stops[AVAREZHU_STOPS_SIZE];
     size_t edge;
     uint8_t before[4], after[4];
+    size_t period;
 };
 
 /* 90deg has vector (16384, 0): pixel i lies at 64i + 32, both stops at 128. */
@@ -300,7 +302,7 @@ static const struct chart angled = {
         [80] = 0, 0, 255, 255, 1, 0, 0, 0, 0xd0, 0x07, 0, 0, 0, 0, 0, 0,
     },
     {[0] = 2, [4] = 255, 0, 0, 255, 128, 0, 0, 0, 0, 0, 255, 255, 128, 0, 0, 0},
-    2, {255, 0, 0, 255}, {0, 0, 255, 255},
+    2, {255, 0, 0, 255}, {0, 0, 255, 255}, 0,
 };
 
 /* 180deg has vector (0, 16384): row j lies at 64j + 32. */
@@ -312,7 +314,7 @@ static const struct chart downward = {
         [80] = 0, 0, 255, 255, 1, 0, 0, 0, 0xd0, 0x07, 0, 0, 0, 0, 0, 0,
     },
     {[0] = 2, [4] = 255, 0, 0, 255, 128, 0, 0, 0, 0, 0, 255, 255, 128, 0, 0, 0},
-    2, {255, 0, 0, 255}, {0, 0, 255, 255},
+    2, {255, 0, 0, 255}, {0, 0, 255, 255}, 0,
 };
 
 /* One color, so one premultiplied color everywhere: 16·64/255 is 4, 32·64/255 is 8, 48·64/255 is 12. */
@@ -326,26 +328,96 @@ static const struct chart round_one = {
         [80] = 16, 32, 48, 64, 2, 0, 0, 0, 0xa0, 0x86, 0x01, 0x00,                       /* 100000 */
     },
     {[0] = 2, [4] = 16, 32, 48, 64, 0, 0, 0, 0, 16, 32, 48, 64, 192, 0, 0, 0},
-    0, {0, 0, 0, 0}, {4, 8, 12, 64},
+    0, {0, 0, 0, 0}, {4, 8, 12, 64}, 0,
+};
+
+#define BAR_STOPS                                                                                                      \
+    [64] = 255, 0, 0, 255, 1, 0, 0, 0, 0x30, 0xf8, 0xff, 0xff, 0, 0, 0, 0,               /* -2000 */                   \
+    [80] = 255, 0, 0, 255, 1, 0, 0, 0, 0x18, 0xfc, 0xff, 0xff, 0, 0, 0, 0,               /* -1000 */                   \
+    [96] = 0, 0, 255, 255, 1, 0, 0, 0, 0x18, 0xfc, 0xff, 0xff, 0, 0, 0, 0,                                             \
+    [112] = 0, 0, 255, 255, 1, 0, 0, 0
+#define BAR_PLACES                                                                                                     \
+    [0] = 4, [4] = 255, 0, 0, 255, 0x80, 0xff, 0xff, 0xff, 255, 0, 0, 255, 0xc0, 0xff, 0xff, 0xff,                     \
+    [20] = 0, 0, 255, 255, 0xc0, 0xff, 0xff, 0xff, 0, 0, 255, 255, 0, 0, 0, 0
+
+/* A period of 128 units that ends where the box begins: pixel i lies at 64i + 32, moved to -96 or -32. */
+static const struct chart bars = {
+    "repeating-linear-gradient(90deg, red -2px, red -1px, blue -1px, blue 0)",
+    {[0] = 4, [8] = 1, [12] = 8, [16] = 0x90, 0x5f, 0x01, 0x00, BAR_STOPS},              /* 90000 */
+    {BAR_PLACES},
+    1, {255, 0, 0, 255}, {0, 0, 255, 255}, 2,
+};
+
+static const struct chart bars_down = {
+    "repeating-linear-gradient(180deg, red -2px, red -1px, blue -1px, blue 0)",
+    {[0] = 4, [8] = 1, [12] = 8, [16] = 0x20, 0xbf, 0x02, 0x00, BAR_STOPS},              /* 180000 */
+    {BAR_PLACES},
+    1, {255, 0, 0, 255}, {0, 0, 255, 255}, 2,
+};
+
+/* The smallest period, one unit: every location is moved to 0, the first stop's. */
+static const struct chart one_unit = {
+    "repeating-linear-gradient(90deg, red, lime 0.008px, blue 0.016px)",
+    {
+        [0] = 3, [8] = 1, [12] = 8, [16] = 0x90, 0x5f, 0x01, 0x00,                       /* 90000 */
+        [64] = 255, 0, 0, 255,
+        [80] = 0, 255, 0, 255, 1, 0, 0, 0, 8, 0, 0, 0,
+        [96] = 0, 0, 255, 255, 1, 0, 0, 0, 16, 0, 0, 0,
+    },
+    {[0] = 3, [4] = 255, 0, 0, 255, 0, 0, 0, 0, 0, 255, 0, 255, 1, 0, 0, 0, 0, 0, 255, 255, 1, 0, 0, 0},
+    0, {0, 0, 0, 0}, {255, 0, 0, 255}, 0,
+};
+
+/* A period of 0: the average, which is T-01's own case. */
+static const struct chart no_period = {
+    "repeating-linear-gradient(90deg, red 2px, white 2px, blue 2px)",
+    {
+        [0] = 3, [8] = 1, [12] = 8, [16] = 0x90, 0x5f, 0x01, 0x00,                       /* 90000 */
+        [64] = 255, 0, 0, 255, 1, 0, 0, 0, 0xd0, 0x07, 0, 0, 0, 0, 0, 0,                 /* 2000 */
+        [80] = 255, 255, 255, 255, 1, 0, 0, 0, 0xd0, 0x07, 0, 0, 0, 0, 0, 0,
+        [96] = 0, 0, 255, 255, 1, 0, 0, 0, 0xd0, 0x07, 0, 0, 0, 0, 0, 0,
+    },
+    {[0] = 3, [4] = 255, 0, 0, 255, 128, 0, 0, 0, 255, 255, 255, 255, 128, 0, 0, 0, 0, 0, 255, 255, 128, 0, 0, 0},
+    0, {0, 0, 0, 0}, {191, 128, 191, 255}, 0,
+};
+
+/* The circle of `round_one`, repeated: still one color. */
+static const struct chart round_again = {
+    "repeating-radial-gradient(circle 3px at 25% -1.5px, #10203040, #10203040 100%)",
+    {
+        [0] = 2, [4] = 1, [8] = 1, [24] = 1, 0, 0, 0, 0xb8, 0x0b, 0, 0,                  /* 3000 */
+        [40] = 2, 0, 0, 0, 0xa8, 0x61, 0, 0,                                             /* 25000 */
+        [52] = 1, 0, 0, 0, 0x24, 0xfa, 0xff, 0xff,                                       /* -1500 */
+        [64] = 16, 32, 48, 64,
+        [80] = 16, 32, 48, 64, 2, 0, 0, 0, 0xa0, 0x86, 0x01, 0x00,                       /* 100000 */
+    },
+    {[0] = 2, [4] = 16, 32, 48, 64, 0, 0, 0, 0, 16, 32, 48, 64, 192, 0, 0, 0},
+    0, {0, 0, 0, 0}, {4, 8, 12, 64}, 0,
 };
 
 static uint8_t picture[4 * AVAREZHU_SIDE_MAX * AVAREZHU_SIDE_MAX];
 static uint8_t file[63 + (6 + 3 * AVAREZHU_SIDE_MAX) * AVAREZHU_SIDE_MAX];
 
-static struct bytes paint(size_t width, size_t height, size_t edge, const uint8_t *before, const uint8_t *after)
+/* The bytes in a column, or in a row, counted from 0. */
+static const uint8_t *color_of(const struct chart *chart, size_t place)
+{
+    return (chart->period != 0 ? place % chart->period : place) < chart->edge ? chart->before : chart->after;
+}
+
+static struct bytes paint(const struct chart *chart, size_t width, size_t height)
 {
     struct bytes b = {picture, 4 * width * height};
     for (size_t i = 0; i < width * height; i++)
-        memcpy(picture + 4 * i, i % width < edge ? before : after, 4);
+        memcpy(picture + 4 * i, color_of(chart, i % width), 4);
     return b;
 }
 
-/* Rows of the picture of `downward`. */
-static struct bytes paint_rows(size_t width, size_t first, size_t end)
+/* Rows of the picture of `downward` or `bars_down`. */
+static struct bytes paint_rows(const struct chart *chart, size_t width, size_t first, size_t end)
 {
     struct bytes b = {picture, 4 * width * (end - first)};
     for (size_t i = 0; i < width * (end - first); i++)
-        memcpy(picture + 4 * i, first + i / width < downward.edge ? downward.before : downward.after, 4);
+        memcpy(picture + 4 * i, color_of(chart, first + i / width), 4);
     return b;
 }
 
@@ -437,6 +509,16 @@ static const struct text texts[] = {
     {TEXT("\f\r\n\t Linear-GRADIENT( 90.0DEG , Red 2.000PX , #0000FF +2px ) "), 0, &angled},
     {TEXT("radial-gradient(circle 3px at 25% -1.5px, #10203040, #10203040 100%)"), 0, &round_one},
     {TEXT("radial-gradient(3px at 25% -1.5px, #10203040, #10203040 100%)"), 0, &round_one},
+    {TEXT("repeating-linear-gradient(90deg, red -2px, red -1px, blue -1px, blue 0)"), 0, &bars},
+    {TEXT("\tREPEATING-Linear-Gradient(90DEG,#f00 -2px,Red -1px,Blue -1.0px,#00F 0)\n"), 0, &bars},
+    {TEXT("repeating-linear-gradient(90deg, red, lime 0.008px, blue 0.016px)"), 0, &one_unit},
+    {TEXT("repeating-linear-gradient(90deg, red 2px, white 2px, blue 2px)"), 0, &no_period},
+    {TEXT("repeating-radial-gradient(circle 3px at 25% -1.5px, #10203040, #10203040 100%)"), 0, &round_again},
+    {TEXT("repeating-linear-gradient(90deg, red 2px, white 2px, blue 2px"), 4, NULL},
+    {TEXT("repeating- linear-gradient(90deg, red 2px, white 2px, blue 2px)"), 4, NULL},
+    {TEXT("repeating-radial-gradient(red 2px, white 2px)"), 4, NULL},
+    {TEXT("repeating-radial-gradient(circle -1px, red, blue)"), 5, NULL},
+    {TEXT("repeating-linear-gradient(" EIGHT ", " EIGHT ", red)"), 6, NULL},
     {TEXT("linear-gradient(90deg, red 2px, blue 2px)\0"), 4, NULL},
     {TEXT("linear-gradient(90deg, red 2px, blue 2px"), 4, NULL},
     {TEXT("linear-gradient(red)"), 4, NULL},
@@ -495,7 +577,7 @@ static void try_boxed(struct text t, struct box box)
     try_lengths(c, box, t.own);
     c.export = DRAW;
     if (t.chart && box_fits(box))
-        c.answer = paint(box.width, box.height, t.chart->edge, t.chart->before, t.chart->after);
+        c.answer = paint(t.chart, box.width, box.height);
     try_lengths(c, box, t.own);
     c.export = PNG;
     if (t.chart && box_fits(box))
@@ -525,6 +607,8 @@ static void try_prefixes(void)
         TEXT("linear-gradient(45.1deg, red, blue 8192.001px)"),
         TEXT("linear-gradient(" EIGHT ", " EIGHT ", red)"),
         TEXT("RADIAL-GRADIENT(\tCIRCLE\n,\rWHITE\f0PX,SILVER 100%\t)"),
+        TEXT("repeating-linear-gradient(90deg, red -2px, red -1px, blue -1px, blue 0)"),
+        TEXT("Repeating-Radial-Gradient(5px, navy, teal 0.016px)"),
     };
     static const enum export exports[] = {READ, PLACE, DRAW, DRAW_ROWS, PNG};
     for (size_t i = 0; i < COUNT(whole); i++)
@@ -549,7 +633,7 @@ static bool rows_fit(struct rows r, size_t height)
 }
 
 /* One strip with each length lent. For rows that are refused these are lengths about the picture's. */
-static void try_strip(struct call c, struct rows rows, uint32_t own)
+static void try_strip(struct call c, const struct chart *chart, struct rows rows, uint32_t own)
 {
     struct box box = {c.width, c.height};
     bool sound = box_fits(box) && rows_fit(rows, c.height);
@@ -558,7 +642,7 @@ static void try_strip(struct call c, struct rows rows, uint32_t own)
     c.first = rows.first;
     c.end = rows.end;
     if (sound)
-        c.answer = paint_rows(c.width, c.first, c.end);
+        c.answer = paint_rows(chart, c.width, c.first, c.end);
     for (size_t i = 0; i < (box_fits(box) ? COUNT(lengths) : 2); i++) {
         c.lent = lengths[i];
         uint32_t room = c.lent < need ? 2 : 0;
@@ -568,7 +652,7 @@ static void try_strip(struct call c, struct rows rows, uint32_t own)
 }
 
 /* Rows at the edges of a picture, past them, and with numbers that wrap. */
-static void try_rows(struct call c, uint32_t own)
+static void try_rows(struct call c, const struct chart *chart, uint32_t own)
 {
     const size_t h = c.height, half = SIZE_MAX / 2 + 1, quarter = SIZE_MAX / 4 + 1;
     const struct rows list[] = {
@@ -584,13 +668,22 @@ static void try_rows(struct call c, uint32_t own)
 #endif
     };
     for (size_t i = 0; i < COUNT(list); i++)
-        try_strip(c, list[i], own);
+        try_strip(c, chart, list[i], own);
 }
 
-static void try_text_rows(struct box box, struct bytes text, uint32_t own)
+/* The rows of a chart; of no chart where the text is refused. */
+static void try_text_rows(struct box box, struct bytes text, const struct chart *chart, uint32_t own)
 {
     struct call c = {.export = DRAW_ROWS, .in = text, .width = box.width, .height = box.height};
-    try_rows(c, own);
+    try_rows(c, chart != NULL ? chart : &downward, own);
+}
+
+static void try_chart_rows(struct box box, const struct chart *chart)
+{
+    struct call c = {.export = DRAW_GRADIENT_ROWS, .width = box.width, .height = box.height};
+    c.in = (struct bytes){chart->gradient, AVAREZHU_GRADIENT_SIZE};
+    try_rows(c, chart, 0);
+    try_text_rows(box, of_text(chart->text), chart, 0);
 }
 
 /* The gradient of `downward` with another count and angle, and as a slice of another length. */
@@ -602,7 +695,7 @@ static void try_gradient_rows(struct box box, uint8_t count, uint8_t angle, size
     memcpy(gradient, downward.gradient, sizeof downward.gradient);
     gradient[0] = count;
     gradient[16] = angle;
-    try_rows(c, own);
+    try_rows(c, &downward, own);
 }
 
 /* In every box what is drawn, in three of them what is refused. An angle of 180,001 thousandths is out of its range. */
@@ -616,15 +709,17 @@ static void try_strips(void)
         {{late_fault, sizeof late_fault}, 4, NULL},
         {TEXT("linear-gradient(45.1deg, red, blue)"), 5, NULL},
         {TEXT("linear-gradient(" EIGHT ", " EIGHT ", red)"), 6, NULL},
+        {TEXT("repeating-linear-gradient(" EIGHT ", " EIGHT ", red)"), 6, NULL},
     };
     static const size_t lengths[] = {0, 1, 319, 321, 400};
     for (size_t k = 0; k < COUNT(boxes); k++) {
-        try_text_rows(boxes[k], of_text(downward.text), 0);
-        try_gradient_rows(boxes[k], 2, 0x20, AVAREZHU_GRADIENT_SIZE, 0);
+        try_chart_rows(boxes[k], &downward);
+        try_chart_rows(boxes[k], &bars_down);
+        try_chart_rows(boxes[k], &no_period);
     }
     for (size_t k = 0; k < COUNT(few); k++) {
         for (size_t i = 0; i < COUNT(refused); i++)
-            try_text_rows(few[k], refused[i].bytes, refused[i].own);
+            try_text_rows(few[k], refused[i].bytes, NULL, refused[i].own);
         for (size_t i = 0; i < COUNT(lengths); i++)
             try_gradient_rows(few[k], 2, 0x20, lengths[i], 4);
         try_gradient_rows(few[k], 1, 0x21, AVAREZHU_GRADIENT_SIZE, 4);
@@ -648,11 +743,11 @@ static void try_slices(struct box box, const struct chart *g, size_t g_length, c
     try_lengths(c, box, own);
     c.export = DRAW_GRADIENT;
     if (box_fits(box))
-        c.answer = paint(box.width, box.height, g->edge, g->before, g->after);
+        c.answer = paint(g, box.width, box.height);
     try_lengths(c, box, own);
     c.export = DRAW_STOPS;
     if (box_fits(box))
-        c.answer = paint(box.width, box.height, s->edge, s->before, s->after);
+        c.answer = paint(s, box.width, box.height);
     try_lengths(c, box, s_length == AVAREZHU_STOPS_SIZE ? own : 4);
 }
 
@@ -668,7 +763,29 @@ static void try_layouts(void)
             try_slices(boxes[k], &round_one, AVAREZHU_GRADIENT_SIZE, &round_one, stops[i]);
         try_slices(boxes[k], &angled, AVAREZHU_GRADIENT_SIZE, &angled, AVAREZHU_STOPS_SIZE);
         try_slices(boxes[k], &angled, 0, &angled, 0);
+        try_slices(boxes[k], &bars, AVAREZHU_GRADIENT_SIZE, &bars, AVAREZHU_STOPS_SIZE);
+        try_slices(boxes[k], &one_unit, AVAREZHU_GRADIENT_SIZE, &bars, AVAREZHU_STOPS_SIZE);
+        try_slices(boxes[k], &bars, AVAREZHU_GRADIENT_SIZE, &no_period, AVAREZHU_STOPS_SIZE);
+        try_slices(boxes[k], &round_again, AVAREZHU_GRADIENT_SIZE, &no_period, AVAREZHU_STOPS_SIZE);
     }
+}
+
+/*
+ * Whether stops are repeated is the gradient's to say. Without it the bars' stops end before the box:
+ * blue. With it the stops of `angled`, all in one place, are the average of red and blue, 127.5 each.
+ */
+static void try_whether(void)
+{
+    static const uint8_t blue[] = {0, 0, 255, 255, 0, 0, 255, 255}, purple[] = {128, 0, 128, 255, 128, 0, 128, 255};
+    struct call c = {.export = DRAW_STOPS, .width = 2, .height = 1, .lent = 11};
+    c.in = (struct bytes){angled.gradient, AVAREZHU_GRADIENT_SIZE};
+    c.stops = (struct bytes){bars.stops, AVAREZHU_STOPS_SIZE};
+    c.answer = (struct bytes){blue, sizeof blue};
+    try_call(&c);
+    c.in = (struct bytes){bars.gradient, AVAREZHU_GRADIENT_SIZE};
+    c.stops = (struct bytes){angled.stops, AVAREZHU_STOPS_SIZE};
+    c.answer = (struct bytes){purple, sizeof purple};
+    try_call(&c);
 }
 
 /* ---- Layouts that are not sound ---- */
@@ -689,7 +806,9 @@ static const struct damage of_angled[] = {
     {4, {{0, 0}}}, {4, {{0, 1}}}, {6, {{0, 17}}}, {6, {{0, UINT32_MAX}}}, {6, {{0, 2 + 256}}},
     {4, {{4, 1}}}, {4, {{4, 2}}}, {4, {{12, 9}}}, {4, {{12, 2}}}, {4, {{12, UINT32_MAX}}},
     {5, {{16, 90100}}}, {5, {{16, 3600250}}}, {5, {{16, MINUS(3600250)}}}, {5, {{16, 0x80000000}}},
-    {5, {{0, 17}, {16, 90100}}}, {4, {{0, 1}, {16, 90100}}}, {4, {{0, 17}, {12, 9}}}, {4, {{16, 90100}, {8, 1}}},
+    {5, {{0, 17}, {16, 90100}}}, {4, {{0, 1}, {16, 90100}}}, {4, {{0, 17}, {12, 9}}}, {4, {{16, 90100}, {8, 2}}},
+    {4, {{8, 2}}}, {4, {{8, 3}}}, {4, {{8, 256}}}, {4, {{8, 257}}}, {4, {{8, 0x1000000}}}, {4, {{8, 0x80000001}}},
+    {4, {{8, UINT32_MAX}}}, {4, {{0, 17}, {8, 2}}}, {5, {{8, 1}, {16, 90100}}}, {6, {{0, 17}, {8, 1}}},
     {4, {{68, 0}}}, {4, {{68, 3}}}, {5, {{68, 2}, {72, 1000001}}}, {5, {{72, 8192001}}},
     {5, {{72, MINUS(8192001)}}}, {5, {{72, 8192001}, {0, 17}}}, {4, {{72, 8192001}, {300, 1}}},
 };
@@ -701,7 +820,9 @@ static const struct damage of_round[] = {
     {4, {{40, 0}}}, {4, {{40, 3}}}, {5, {{44, 1000001}}}, {5, {{44, MINUS(1000001)}}},
     {4, {{52, 0}}}, {4, {{52, 3}}}, {5, {{56, 8192001}}}, {5, {{56, MINUS(8192001)}}},
     {4, {{72, 1}}}, {5, {{68, 2}, {72, 1000001}}}, {4, {{56, 8192001}, {52, 3}}},
-    /* sound ones, at the ends of the ranges: still one color */
+    {4, {{8, 2}}}, {4, {{8, 256}}}, {5, {{8, 1}, {44, 1000001}}}, {6, {{8, 1}, {0, 17}}},
+    /* sound ones, at the ends of the ranges, some of them repeating: still one color */
+    {0, {{8, 1}}}, {0, {{8, 1}, {28, 0}}}, {0, {{8, 1}, {28, 8192000}}}, {0, {{8, 1}, {84, 1}, {88, 16}}},
     {0, {{28, 8192000}}}, {0, {{28, 0}}}, {0, {{44, 1000000}}}, {0, {{44, MINUS(1000000)}}}, {0, {{40, 1}}},
     {0, {{56, 8192000}}}, {0, {{56, MINUS(8192000)}}}, {0, {{52, 2}}}, {0, {{24, 0}, {28, 0}}},
     {0, {{20, 1}, {24, 0}, {28, 0}}}, {0, {{20, 2}, {24, 0}, {28, 0}}}, {0, {{20, 3}, {24, 0}, {28, 0}}},
@@ -719,7 +840,7 @@ static void try_gradient(const uint8_t *gradient, uint32_t own)
 {
     struct call c = {.in = {gradient, AVAREZHU_GRADIENT_SIZE}, .width = 4, .height = 1, .end = 1, .reply = own};
     c.stops = (struct bytes){round_one.stops, AVAREZHU_STOPS_SIZE};
-    c.answer = paint(4, 1, 0, round_one.before, round_one.after);
+    c.answer = paint(&round_one, 4, 1);
     c.export = DRAW_GRADIENT;
     c.lent = 16;
     try_call(&c);
@@ -747,13 +868,16 @@ static void try_damage(const struct chart *chart, const struct damage *list, siz
     }
 }
 
-/* Every bit of every word that must be 0 in `angled`: reserved, of a circle, or of a blank place. */
+/*
+ * Every bit of every word that must be 0 in `angled`: reserved, of a circle, or of a blank place; and
+ * every bit but the lowest of the word that says whether it repeats.
+ */
 static void try_zero_words(void)
 {
     uint8_t gradient[AVAREZHU_GRADIENT_SIZE];
     for (size_t offset = 8; offset < AVAREZHU_GRADIENT_SIZE; offset++) {
         bool zero = offset < 12 || (offset >= 20 && offset < 64) || (offset >= 76 && offset < 80) || offset >= 92;
-        for (int bit = 0; zero && bit < 8; bit++) {
+        for (int bit = offset == 8 ? 1 : 0; zero && bit < 8; bit++) {
             memcpy(gradient, angled.gradient, sizeof gradient);
             gradient[offset] = (uint8_t)(1 << bit);
             try_gradient(gradient, 4);
@@ -771,6 +895,9 @@ static const struct list lists[] = {
     {{2, 0x40302010, 0, 0x40302010, 192}, 0},
     {{2, 0x40302010, MINUS(33554432), 0x40302010, 33554432}, 0},
     {{3, 0x40302010, 5, 0x40302010, 5, 0x40302010, 5}, 0},
+    {{2, 0x40302010, 5, 0x40302010, 6}, 0},
+    {{2, 0x40302010, MINUS(33554432), 0x40302010, MINUS(33554431)}, 0},
+    {{3, 0x40302010, 33554431, 0x40302010, 33554431, 0x40302010, 33554432}, 0},
     {{0}, 4},
     {{0, 0x40302010, 0, 0x40302010, 192}, 4},
     {{1, 0x40302010, 0}, 4},
@@ -797,13 +924,13 @@ static const struct list lists[] = {
 static void try_lists(void)
 {
     static const struct damage beside[] = {
-        {0, {{4, 0}}}, {4, {{4, 2}}}, {5, {{16, 90100}}}, {6, {{0, 17}}},
+        {0, {{4, 0}}}, {0, {{8, 1}}}, {4, {{4, 2}}}, {4, {{8, 2}}}, {5, {{16, 90100}}}, {6, {{0, 17}}},
     };
     uint8_t gradient[AVAREZHU_GRADIENT_SIZE], stops[AVAREZHU_STOPS_SIZE];
     struct call c = {.export = DRAW_STOPS, .width = 4, .height = 1, .lent = 17};
     c.in = (struct bytes){gradient, sizeof gradient};
     c.stops = (struct bytes){stops, sizeof stops};
-    c.answer = paint(4, 1, 0, round_one.before, round_one.after);
+    c.answer = paint(&round_one, 4, 1);
     for (size_t i = 0; i < COUNT(lists); i++)
         for (size_t k = 0; k < COUNT(beside); k++) {
             memcpy(gradient, angled.gradient, sizeof gradient);
@@ -829,6 +956,15 @@ static const struct worked drawn[] = {
      {32, 32, 32, 255, 96, 96, 96, 255, 159, 159, 159, 255, 223, 223, 223, 255}},        /* P1 */
     {"linear-gradient(to right, red, transparent)", 2, 1, {191, 0, 0, 191, 64, 0, 0, 64}}, /* P2 */
     {"radial-gradient(circle at 0.5px 0.5px, red -50px, yellow 100px)", 1, 1, {255, 85, 0, 255}}, /* P9 */
+    {"repeating-linear-gradient(red 0, white 0, blue 0)", 1, 1, {191, 128, 191, 255}},   /* T-01 */
+    /* 32 and 96 of 128 units, twice: 63.75 and 191.25 */
+    {"repeating-linear-gradient(to right, black, white 2px)", 4, 1,
+     {64, 64, 64, 255, 191, 191, 191, 255, 64, 64, 64, 255, 191, 191, 191, 255}},
+    /* the second pixel lies where the last stop meets the first */
+    {"repeating-linear-gradient(to right, red -1.5px, black 1.5px)", 2, 1, {85, 0, 0, 255, 255, 0, 0, 255}},
+    {"repeating-radial-gradient(0px, red, #0f00)", 1, 2, {128, 0, 0, 128, 128, 0, 0, 128}}, /* 127.5 twice */
+    /* 45 units from the center, and 101, 5 more than two periods of 48: 239.06 and 26.56 */
+    {"repeating-radial-gradient(circle at 0 0, black, white 0.75px)", 2, 1, {239, 239, 239, 255, 27, 27, 27, 255}},
 };
 
 /* P4 and P5, in 200 by 1 pixels: a line of 12,800 units. */
@@ -892,20 +1028,30 @@ static void try_room(struct call c)
     try_call(&c);
 }
 
-/* The largest picture, whole and its last 64 rows: red up to the middle, then blue. */
-static void try_largest(void)
+/* The largest picture, whole and its last 64 rows. */
+static void try_largest_of(const char *text, const struct chart *chart)
 {
-    struct call c = {.export = DRAW, .width = 2048, .height = 2048};
-    c.in = of_text("linear-gradient(90deg, red 1024px, blue 1024px)");
-    c.answer = paint(2048, 2048, 1024, angled.before, angled.after);
+    struct call c = {.export = DRAW, .in = of_text(text), .width = 2048, .height = 2048};
+    c.answer = paint(chart, 2048, 2048);
     try_room(c);
     c.export = PNG;
     c.answer = file_of(c.answer, 2048, 2048);
     try_room(c);
     c.export = DRAW_ROWS;
     c.first = 1984, c.end = 2048;
-    c.answer = paint(2048, 64, 1024, angled.before, angled.after);
+    c.answer = paint(chart, 2048, 64);
     try_room(c);
+}
+
+/* Red up to the middle, then blue; bars of 3 and 4 px, whose stops lie past the box; one color. */
+static void try_largest(void)
+{
+    struct chart half = angled, wide = bars;
+    half.edge = 1024;
+    wide.edge = 3, wide.period = 7;
+    try_largest_of("linear-gradient(90deg, red 1024px, blue 1024px)", &half);
+    try_largest_of("repeating-linear-gradient(90deg, red 7000px, red 7003px, blue 7003px, blue 7007px)", &wide);
+    try_largest_of(no_period.text, &no_period);
 }
 
 /* ---- The header's structs ---- */
@@ -923,6 +1069,13 @@ static void check_structs(void)
     a.stops[1] = (avarezhu_stop){0, 0, 255, 255, AVAREZHU_LENGTH, 2000, 0};
     if (memcmp(&a, angled.gradient, sizeof a) != 0)
         fail("avarezhu_gradient does not overlay a linear layout");
+    avarezhu_gradient b = {.count = 4, .repeating = 1, .direction = AVAREZHU_ANGLE, .angle = 90000};
+    b.stops[0] = (avarezhu_stop){255, 0, 0, 255, AVAREZHU_LENGTH, -2000, 0};
+    b.stops[1] = (avarezhu_stop){255, 0, 0, 255, AVAREZHU_LENGTH, -1000, 0};
+    b.stops[2] = (avarezhu_stop){0, 0, 255, 255, AVAREZHU_LENGTH, -1000, 0};
+    b.stops[3] = (avarezhu_stop){0, 0, 255, 255, AVAREZHU_LENGTH, 0, 0};
+    if (memcmp(&b, bars.gradient, sizeof b) != 0)
+        fail("avarezhu_gradient does not overlay a repeating layout");
     avarezhu_stops s = {.count = 3};
     s.stops[0] = (avarezhu_placed_stop){255, 0, 0, 255, -6400};
     s.stops[1] = (avarezhu_placed_stop){255, 255, 255, 255, 3200};
@@ -973,6 +1126,7 @@ int main(void)
     try_prefixes();
     try_strips();
     try_layouts();
+    try_whether();
     try_damage(&angled, of_angled, COUNT(of_angled));
     try_damage(&round_one, of_round, COUNT(of_round));
     try_zero_words();

@@ -37,6 +37,7 @@ static const char *const export_names[EXPORTS] = {
 
 #define FOUR(a) a ", " a ", " a ", " a
 #define SIXTEEN FOUR("red 3%, lime, #0000ff80, white 2px")
+#define UNPLACED FOUR("red, lime, #0000ff80, white")
 
 /* Texts with their replies; a text shorter than `length` is filled up with blanks. */
 static const struct recipe {
@@ -60,6 +61,18 @@ static const struct recipe {
     {"a circle of a length", "radial-gradient(8192px at -8192px 1000%, red -1000%, blue 1000%)", 0, 0},
     {"a circle far outside", "radial-gradient(circle at 1000% -8192px, " SIXTEEN ")", 0, 0},
     {"a circle of no radius", "radial-gradient(0px at 10.5px 7px, red, lime, #0000ff80)", 0, 0},
+    {"bars", "repeating-linear-gradient(90deg, red -3px, red 2px, #0000ff80 2px, #0000ff80 9.5px)", 0, 0},
+    {"a repeating angle, 16 stops", "repeating-linear-gradient(-1234.75deg, " UNPLACED " 40px)", 0, 0},
+    {"a repeating corner", "repeating-linear-gradient(to top left, red -8192px, #0000ff80 -8100.3px)", 0, 0},
+    {"a repeating side", "repeating-linear-gradient(red 300px, transparent 340px)", 0, 0},
+    {"rings", "repeating-radial-gradient(circle, red, #0000ff80 7px, lime 40px)", 0, 0},
+    {"rings off the middle, 16 stops", "repeating-radial-gradient(circle at 30.3% 41.7%, " UNPLACED " 40px)", 0, 0},
+    {"rings far outside", "repeating-radial-gradient(circle at 1000% -8192px, red, blue 40px)", 0, 0},
+    {"a period of a unit", "repeating-linear-gradient(37.25deg, red, lime 0.008px, blue 0.016px)", 0, 0},
+    {"rings of a unit", "repeating-radial-gradient(circle at 30.3% 41.7%, red, blue 0.016px)", 0, 0},
+    {"one color", "repeating-linear-gradient(37.25deg, red 2px, white 2px, #0000ff80 2px)", 0, 0},
+    {"one color of 16, a circle", "repeating-radial-gradient(0px, " UNPLACED ")", 0, 0},
+    {"seventeen repeating stops", "repeating-radial-gradient(circle, " SIXTEEN ", red)", 0, 6},
     {"a text of 1,024 bytes", "linear-gradient(37.25deg, " SIXTEEN ")", 1024, 0},
     {"a text of 1,025 bytes", "linear-gradient(37.25deg, " SIXTEEN ")", 1025, 3},
     {"an empty text", "", 0, 4},

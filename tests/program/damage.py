@@ -16,6 +16,8 @@ texts = [
     b"linear-gradient(to right, black, white)",
     b"linear-gradient(33.25deg, #ff08 -20%, lime 10px, #00f0 30px, yellow)",
     b"radial-gradient(circle closest-side at 30% 40%, red, lime 10px, blue 10px, #1234)",
+    b"repeating-linear-gradient(100.75deg, black, black 4px, white 4px, white 8px)",
+    b"repeating-radial-gradient(circle 16px at center, red, #0f0 50%, transparent)",
     b" Linear-Gradient(\n\tto top left,\r\n\tred,\n\ttransparent 50%,\n\tblue)\n",
 ]
 scraps = [b",", b"(", b")", b" ", b";", b"\n", b"\0", b"\xc2\xa0", b"\xef\xbb\xbf", b"\xff", b"em", b"rgb(", b"red", b"9999px", b"#", b"-", b"\xe2\x80"]

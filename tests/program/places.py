@@ -20,6 +20,9 @@ wrong_heads = {
     "linear-gradient(": [("to left right", 4), ("45deg to top", 4), ("to the right", 4), ("4000deg", 5), ("0.1deg", 5)],
     "radial-gradient(": [("circle at top 5px", 4), ("circle circle", 4), ("circle at", 4), ("circle -1px", 5), ("circle at 1001% 0", 5)],
 }
+for name in list(heads):
+    heads["repeating-" + name] = heads[name]
+    wrong_heads["repeating-" + name] = wrong_heads[name]
 stops = ["red", "#0f0", "blue 40%", "#11223344 -5px", "transparent", "White 0"]
 wrong_stops = [("redd", 4), ("#12345", 4), ("blue 4em", 4), ("lime 5", 4), ("red 1px 2px 3px", 4), ("red40%", 4), ("red 9000px", 5), ("blue -1000.5%", 5)]
 commas = [",", ", ", " ,", ",\n    ", "\n,\t", ",\r\n"]

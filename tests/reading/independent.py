@@ -13,6 +13,7 @@ For each text the reply is printed, and then what is handed out with it:
     0 linear to top left | #ff0000ff | #0000ffff 40.000%     a direction, then the stops
     0 linear 450.000deg | #ff0000ff | #0000ffff 5.000px
     0 radial closest-side at 50.000% 0.000px | #..           a size, the center from the left and from the top, then the stops
+    0 repeating linear to bottom | #..                       the same where the gradient repeats
 
 Every number is printed with its thousandths and is exact.
 
@@ -172,12 +173,12 @@ def circle_in_range(item):
 
 def parse(text):
     """The head's line, the stops, and whether every number is in its range."""
-    found = re.fullmatch(r"(linear|radial)-gradient\((.*)\)", text, re.DOTALL)
+    found = re.fullmatch(r"(repeating-|)(linear|radial)-gradient\((.*)\)", text, re.DOTALL)
     if not found:
         raise Refusal
-    items = [Item(part) for part in found[2].split(",")]
+    items = [Item(part) for part in found[3].split(",")]
     in_range = True
-    if found[1] == "radial":
+    if found[2] == "radial":
         head = items.pop(0)
         if not CIRCLE.fullmatch(head.kinds):
             raise Refusal
@@ -192,7 +193,7 @@ def parse(text):
     if len(items) < 2 or not all(STOP.fullmatch(item.kinds) for item in items):
         raise Refusal
     in_range = in_range and all(n.in_range() for item in items for n in item.numbers())
-    return line, items, in_range
+    return ("repeating " if found[1] else "") + line, items, in_range
 
 
 def read(data):

@@ -1,7 +1,7 @@
 -- From what is said of values to what is said of the slices that hold them.
 -- Assumes nothing.
 use mathlib.Core.Path.{_≡_, refl, sym, ap, _∙_, subst}
-use mathlib.Core.List.{List, map}
+use mathlib.Core.List.{List}
 use Prim.Native.Nat.{ℕ, zero, suc}
 use lib.ListN.{length}
 use Rattle.replies.specs.Replies.{lowest}
@@ -11,15 +11,13 @@ use Rattle.replies.proofs.Laws.{lowest-zero, room-zero}
 use Rattle.gradient.specs.Check.{checkOf}
 use Rattle.line.specs.Line.{ruleOf}
 use Rattle.reader.specs.Reading.{readOf}
-use Rattle.stops.specs.Check.{placedOf}
 use Rattle.stops.specs.declared.PlacedStops.{PlacedStops}
 use Rattle.placing.specs.declared.Placing.{Placing}
 use Rattle.placing.specs.Placed.{placedIn}
 use Rattle.placing.specs.Reply.{handedOut, placeReply, placeOf}
-use Rattle.color.specs.Stop.{stopOf}
 use Rattle.picture.specs.Picture.{buffer}
 use Rattle.drawing.specs.Replies.{gradientRowsReply, stopsReply}
-use Rattle.drawing.specs.Drawn.{DrawnRows, Drawn}
+use Rattle.drawing.specs.Drawn.{gradientPaint, stopsPaint, DrawnRows, Drawn}
 use Rattle.from_text.specs.Text.{placeTextReply, placeTextOf}
 use Rattle.layout.specs.declared.Taken.{Taken}
 use Rattle.layout.specs.Taken.{takenReply, takenOf}
@@ -28,7 +26,7 @@ use Rattle.stopslayout.specs.declared.TakenStops.{TakenStops}
 use Rattle.stopslayout.specs.Words.{placedLayoutOf}
 use Rattle.stopslayout.specs.Taken.{takenStopsReply, takenStopsOf}
 use Rattle.stopslayout.proofs.Exact as stops-exact
-use Rattle.avarezhu.specs.Calls.{stopsSize, stopsRoom, placeCall, placeGradientCall, drawGradientRowsCall, drawStopsCall, placedLayout, takenRule, gradientStops, listStops}
+use Rattle.avarezhu.specs.Calls.{stopsSize, stopsRoom, placeCall, placeGradientCall, drawGradientRowsCall, drawStopsCall, placedLayout, takenRule, takenPaint, takenStopsPaint}
 
 -- ---- what is handed out in a lent slice
 -- after a refusal it makes no difference which stops there would have been
@@ -79,10 +77,10 @@ module _ (g : List ℕ) (t : Taken) (e : t ≡ takenOf g) (z : t .reply ≡ 0) w
 
   -- a strip of its picture
   pub drawn-taken : (w h a b r : ℕ) (before after : List ℕ) → stripReply w h a b (length before) ≡ 0
-      → DrawnRows (gradientRowsReply (t .gradient) w h a b (length before)) (ruleOf (t .gradient .shape) w h) (map stopOf (placedIn (t .gradient) w h)) w a b r before after
-      → DrawnRows (drawGradientRowsCall g w h a b (length before)) (takenRule g w h) (gradientStops g w h) w a b r before after
+      → DrawnRows (gradientRowsReply (t .gradient) w h a b (length before)) (ruleOf (t .gradient .shape) w h) (gradientPaint (t .gradient) w h) w a b r before after
+      → DrawnRows (drawGradientRowsCall g w h a b (length before)) (takenRule g w h) (takenPaint g w h) w a b r before after
   drawn-taken w h a b r before after room d =
-      let k = subst (λ (x : Taken). DrawnRows (gradientRowsReply (x .gradient) w h a b (length before)) (ruleOf (x .gradient .shape) w h) (map stopOf (placedIn (x .gradient) w h)) w a b r before after) e d in
+      let k = subst (λ (x : Taken). DrawnRows (gradientRowsReply (x .gradient) w h a b (length before)) (ruleOf (x .gradient .shape) w h) (gradientPaint (x .gradient) w h) w a b r before after) e d in
       let same : gradientRowsReply (takenOf g .gradient) w h a b (length before) ≡ drawGradientRowsCall g w h a b (length before) = rw (room, accepted, reply-zero) in
       record { reply = k .reply ∙ same; bytes-left = k .bytes-left; pixels = k .pixels }
 
@@ -95,13 +93,13 @@ module _ (g p : List ℕ) (t : Taken) (e : t ≡ takenOf g) (l : TakenStops) (k 
   list-zero = sym (list-reply p l k) ∙ lowest-zero _ _ z .1
 
   pub drawn-stops : (w h r : ℕ) (before after : List ℕ) → roomReply w h (length before) ≡ 0
-      → Drawn (stopsReply (t .gradient) (l .stops) w h (length before)) (ruleOf (t .gradient .shape) w h) (map stopOf (placedOf (l .stops))) w h r before after
-      → Drawn (drawStopsCall g p w h (length before)) (takenRule g w h) (listStops p) w h r before after
+      → Drawn (stopsReply (t .gradient) (l .stops) w h (length before)) (ruleOf (t .gradient .shape) w h) (stopsPaint (t .gradient) (l .stops)) w h r before after
+      → Drawn (drawStopsCall g p w h (length before)) (takenRule g w h) (takenStopsPaint g p) w h r before after
   unfolding lowest
   drawn-stops w h r before after room d =
       let zt = lowest-zero _ _ z .0 in
-      let a = subst (λ (x : Taken). Drawn (stopsReply (x .gradient) (l .stops) w h (length before)) (ruleOf (x .gradient .shape) w h) (map stopOf (placedOf (l .stops))) w h r before after) e d in
-      let b = subst (λ (x : TakenStops). Drawn (stopsReply (takenOf g .gradient) (x .stops) w h (length before)) (takenRule g w h) (map stopOf (placedOf (x .stops))) w h r before after) k a in
+      let a = subst (λ (x : Taken). Drawn (stopsReply (x .gradient) (l .stops) w h (length before)) (ruleOf (x .gradient .shape) w h) (stopsPaint (x .gradient) (l .stops)) w h r before after) e d in
+      let b = subst (λ (x : TakenStops). Drawn (stopsReply (takenOf g .gradient) (x .stops) w h (length before)) (takenRule g w h) (stopsPaint (takenOf g .gradient) (x .stops)) w h r before after) k a in
       let same : stopsReply (takenOf g .gradient) (takenStopsOf p .stops) w h (length before) ≡ drawStopsCall g p w h (length before) =
       rw (room, accepted g t e zt, stops-exact.taken-only p stops-zero .1, reply-zero g t e zt, list-zero) in
       record { reply = b .reply ∙ same; bytes-left = b .bytes-left; pixels = b .pixels }

@@ -1,7 +1,7 @@
 -- What the calls of the C side answer, and what they hand out. Document 01: "Where the C side gets a chart or stops in a lent slice, 2 is also
 -- given when it is shorter than the one size docs/ states with its layout".
 -- Assumes nothing.
-use mathlib.Core.List.{List, map}
+use mathlib.Core.List.{List}
 use Prim.Native.Nat.{ℕ}
 use Rattle.replies.specs.Replies.{_orElse_, lowest}
 use Rattle.replies.specs.Room.{sizeReply, roomFor, stripReply, roomReply}
@@ -9,9 +9,9 @@ use Rattle.gradient.specs.declared.Gradient.{Gradient}
 use Rattle.line.specs.Line.{ruleOf}
 use Rattle.line.specs.Location.{Rule}
 use Rattle.reader.specs.Reading.{readOf}
-use Rattle.stops.specs.Check.{placedOf}
 use Rattle.placing.specs.Placed.{placedIn, listed}
-use Rattle.color.specs.Stop.{Stop, stopOf}
+use Rattle.color.specs.Paint.{Paint}
+use Rattle.drawing.specs.Drawn.{gradientPaint, stopsPaint}
 use Rattle.layout.specs.Taken.{takenReply, takenOf}
 use Rattle.stopslayout.specs.Words.{placedLayoutOf}
 use Rattle.stopslayout.specs.Taken.{takenStopsReply, takenStopsOf}
@@ -53,12 +53,12 @@ drawStopsCall g p w h n = roomReply w h n orElse lowest (takenReply g) (takenSto
 abbrev pub placedLayout : Gradient → ℕ → ℕ → List ℕ
 placedLayout g w h = placedLayoutOf (listed (placedIn g w h))
 
--- the rule of the locations, and the stops, of slices that were taken
+-- the rule of the locations of slices that were taken, and what they color by
 abbrev pub takenRule : List ℕ → ℕ → ℕ → Rule
 takenRule g w h = ruleOf (takenOf g .gradient .shape) w h
 
-abbrev pub gradientStops : List ℕ → ℕ → ℕ → List Stop
-gradientStops g w h = map stopOf (placedIn (takenOf g .gradient) w h)
+abbrev pub takenPaint : List ℕ → ℕ → ℕ → Paint
+takenPaint g w h = gradientPaint (takenOf g .gradient) w h
 
-abbrev pub listStops : List ℕ → List Stop
-listStops p = map stopOf (placedOf (takenStopsOf p .stops))
+abbrev pub takenStopsPaint : List ℕ → List ℕ → Paint
+takenStopsPaint g p = stopsPaint (takenOf g .gradient) (takenStopsOf p .stops)

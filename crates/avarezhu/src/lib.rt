@@ -6,13 +6,13 @@ ghost use Prim.Native.Nat.{_≤_};
 ghost use lib.ListN.{length};
 ghost use Rattle.replies.specs.Handed.{Handed};
 ghost use Rattle.reader.specs.Reading.{readOf};
-ghost use Rattle.from_text.specs.Text.{drawRowsReply, drawTextReply, textRule, textStops};
+ghost use Rattle.from_text.specs.Text.{drawRowsReply, drawTextReply, textRule, textPaint};
 ghost use Rattle.drawing.specs.Drawn.{DrawnRows, Drawn};
 ghost use Rattle.to_png.specs.File.{pngReply, pngOf};
 ghost use Rattle.layout.specs.Words.{layoutOf};
 ghost use Rattle.layout.specs.Taken.{takenOf};
 ghost use Rattle.stopslayout.specs.Words.{placedLayoutOf};
-ghost use Rattle.avarezhu.specs.Calls.{readCall, placeCall, placeGradientCall, drawGradientRowsCall, drawGradientCall, drawStopsCall, placedLayout, takenRule, gradientStops, listStops};
+ghost use Rattle.avarezhu.specs.Calls.{readCall, placeCall, placeGradientCall, drawGradientRowsCall, drawGradientCall, drawStopsCall, placedLayout, takenRule, takenPaint, takenStopsPaint};
 
 // ---- reading
 
@@ -96,7 +96,7 @@ pub extern "C" fn avarezhu_draw_rows(
     pixels: &mut [u8],
 ) -> u32
     ensures { λ r. ⌜ DrawnRows (drawRowsReply (now (text .entry)) w h first end (length (now (pixels .entry)))) (textRule (now (text .entry)) w h)
-        (textStops (now (text .entry)) w h) w first end r (now (pixels .entry)) (now (pixels .exit)) ⌝ }
+        (textPaint (now (text .entry)) w h) w first end r (now (pixels .entry)) (now (pixels .exit)) ⌝ }
 {
     from_text::draw_text_rows(text, w, h, first, end, pixels)
 }
@@ -105,7 +105,7 @@ pub extern "C" fn avarezhu_draw_rows(
 #[no_mangle]
 pub extern "C" fn avarezhu_draw(text: &[u8], w: usize, h: usize, pixels: &mut [u8]) -> u32
     ensures { λ r. ⌜ Drawn (drawTextReply (now (text .entry)) w h (length (now (pixels .entry)))) (textRule (now (text .entry)) w h)
-        (textStops (now (text .entry)) w h) w h r (now (pixels .entry)) (now (pixels .exit)) ⌝ }
+        (textPaint (now (text .entry)) w h) w h r (now (pixels .entry)) (now (pixels .exit)) ⌝ }
 {
     from_text::draw_text(text, w, h, pixels)
 }
@@ -121,7 +121,7 @@ pub extern "C" fn avarezhu_draw_gradient_rows(
     pixels: &mut [u8],
 ) -> u32
     ensures { λ r. ⌜ DrawnRows (drawGradientRowsCall (now (gradient .entry)) w h first end (length (now (pixels .entry)))) (takenRule (now (gradient .entry)) w h)
-        (gradientStops (now (gradient .entry)) w h) w first end r (now (pixels .entry)) (now (pixels .exit)) ⌝ }
+        (takenPaint (now (gradient .entry)) w h) w first end r (now (pixels .entry)) (now (pixels .exit)) ⌝ }
 {
     let r = replies::strip_reply(w, h, first, end, pixels.len());
     if r != DONE {
@@ -143,7 +143,7 @@ pub extern "C" fn avarezhu_draw_gradient(
     pixels: &mut [u8],
 ) -> u32
     ensures { λ r. ⌜ Drawn (drawGradientCall (now (gradient .entry)) w h (length (now (pixels .entry)))) (takenRule (now (gradient .entry)) w h)
-        (gradientStops (now (gradient .entry)) w h) w h r (now (pixels .entry)) (now (pixels .exit)) ⌝ }
+        (takenPaint (now (gradient .entry)) w h) w h r (now (pixels .entry)) (now (pixels .exit)) ⌝ }
 {
     avarezhu_draw_gradient_rows(gradient, w, h, 0, h, pixels)
 }
@@ -158,7 +158,7 @@ pub extern "C" fn avarezhu_draw_stops(
     pixels: &mut [u8],
 ) -> u32
     ensures { λ r. ⌜ Drawn (drawStopsCall (now (gradient .entry)) (now (stops .entry)) w h (length (now (pixels .entry)))) (takenRule (now (gradient .entry)) w h)
-        (listStops (now (stops .entry))) w h r (now (pixels .entry)) (now (pixels .exit)) ⌝ }
+        (takenStopsPaint (now (gradient .entry)) (now (stops .entry))) w h r (now (pixels .entry)) (now (pixels .exit)) ⌝ }
 {
     let r = replies::room_reply(w, h, pixels.len());
     if r != DONE {

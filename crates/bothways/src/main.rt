@@ -18,22 +18,31 @@ fn no_ramp() -> [u32; ramp::HEAD] {
     [0u32; ramp::HEAD]
 }
 
-fn draw_stops(l: Line, p: PlacedStops, z: Strip, fast: &mut [u8], plain: &mut [u8])
-    requires { ⌜ Placed l (z .w) (z .h) × Lendable p × (0 < p .count) × Rows z (length (now fast)) × Rows z (length (now plain)) ⌝ }
+// Tells whether all pixels have one color.
+fn draw_stops(
+    l: Line,
+    p: PlacedStops,
+    repeating: bool,
+    z: Strip,
+    fast: &mut [u8],
+    plain: &mut [u8],
+) -> bool
+    requires { ⌜ Placed l (z .w) (z .h) × Lendable p × (1 < p .count) × Rows z (length (now fast)) × Rows z (length (now plain)) ⌝ }
 {
     let mut stops = no_ramp();
-    ramp::set_stops(&mut stops, p);
+    ramp::set_stops(&mut stops, p, repeating);
     strips::draw(&stops, l, z, fast);
     rows::draw_each(&stops, l, z, plain);
+    ramp::is_one_color(&stops)
 }
 
-fn draw_gradient(g: Gradient, z: Strip, fast: &mut [u8], plain: &mut [u8])
+fn draw_gradient(g: Gradient, z: Strip, fast: &mut [u8], plain: &mut [u8]) -> bool
     requires { ⌜ Box (z .w) (z .h) × Accepted g × Rows z (length (now fast)) × Rows z (length (now plain)) ⌝ }
 {
     let shape = g.shape;
     let l = line::line_of(shape, z.w, z.h);
     let p = placing::place_in_box(g, z.w, z.h);
-    draw_stops(l, p, z, fast, plain);
+    draw_stops(l, p, g.repeating, z, fast, plain)
 }
 
 // Draws rows a up to b into both buffers, and compares all of their bytes.
@@ -42,12 +51,14 @@ fn compare(g: Gradient, z: Strip, fast: &mut [u8], plain: &mut [u8]) -> Tally
 {
     tally::fill(fast);
     tally::fill(plain);
-    draw_gradient(g, z, fast, plain);
+    let even = draw_gradient(g, z, fast, plain);
     let part = if z.b - z.a < z.h { 1 } else { 0 };
     let n = if words::same(fast, plain) { 0 } else { 1 };
     Tally {
         pictures: 1,
         parts: part,
+        repeated: if g.repeating { 1 } else { 0 },
+        even: if even { 1 } else { 0 },
         pixels: (z.w * (z.b - z.a)) as u64,
         different: n,
         refused: 0,

@@ -194,7 +194,7 @@ fn color_of(opaque: bool, seed: u32) -> Color {
     }
 }
 
-// A position in one of the styles: none, anywhere on the line, often equal, in px, within 3px, far away.
+// A position in one of the styles: none, anywhere on the line, often equal, in px, within 3px, far away, and, as style 8, within a few units.
 fn position_of(style: u32, seed: u32) -> Position {
     match style {
         0 => Position::Auto,
@@ -203,11 +203,12 @@ fn position_of(style: u32, seed: u32) -> Position {
         3 => Position::Length(either_sign(seed, roll(seed, 30, 150000))),
         4 => Position::Length(words::signed(roll(seed, 30, 3000))),
         5 => Position::Length(either_sign(seed, roll(seed, 30, 8192001))),
+        8 => Position::Length(words::signed(roll(seed, 30, 80))),
         _ => Position::Percentage(either_sign(seed, roll(seed, 30, 1000001))),
     }
 }
 
-// Style 7 is any of the others, for each stop anew.
+// Style 7 is any of those before it, for each stop anew.
 fn stop_of(style: u32, opaque: bool, seed: u32) -> Stop {
     let s = if style == 7 { roll(seed, 31, 7) } else { style };
     Stop {
@@ -239,9 +240,10 @@ fn stops_of(style: u32, opaque: bool, n: usize, seed: u32) -> [Stop; 16] {
 pub fn gradient_of(kind: u32, seed: u32) -> Gradient {
     let n = stop_count(seed);
     let opaque = roll(seed, 51, 2) == 0;
-    let stops = stops_of(roll(seed, 50, 8), opaque, n as usize, seed);
+    let stops = stops_of(roll(seed, 50, 9), opaque, n as usize, seed);
     Gradient {
         shape: shape_of(kind, seed),
+        repeating: roll(seed, 53, 2) == 0,
         count: n,
         stops: stops,
     }

@@ -161,10 +161,183 @@ fn draw_refused_rows() {
     draw_rows(unclosed, 2, 2, 1, 2, 9);
 }
 
+// Gradients that repeat: periods within the box, before it and past it, of a pixel, of a unit and of none.
+fn draw_repeating() {
+    draw(
+        b"repeating-linear-gradient(to right, black, white 4px)",
+        8,
+        1,
+        32,
+    );
+    draw(
+        b"repeating-linear-gradient(to right, red -3px, blue -1px)",
+        8,
+        1,
+        32,
+    );
+    draw(
+        b"repeating-linear-gradient(red -1.5px, lime 1px, blue 2.5px)",
+        1,
+        8,
+        32,
+    );
+    draw(
+        b"repeating-linear-gradient(45deg, black, white 1px)",
+        4,
+        4,
+        64,
+    );
+    draw(
+        b"repeating-linear-gradient(to right, red, lime 0.008px, blue 0.016px)",
+        6,
+        2,
+        48,
+    );
+    draw(
+        b"repeating-linear-gradient(to bottom right, red, blue 0.016px, white 0.031px)",
+        4,
+        4,
+        64,
+    );
+    draw(
+        b"repeating-linear-gradient(red 0, white 0, blue 0)",
+        4,
+        2,
+        36,
+    );
+    draw(
+        b"repeating-radial-gradient(circle at 1px 1px, red 7px, #0f08 5px, transparent 2px)",
+        2,
+        2,
+        16,
+    );
+    draw(
+        b"repeating-radial-gradient(0px at 1.5px 1.5px, white, #123, #4567)",
+        3,
+        3,
+        36,
+    );
+    draw(
+        b"repeating-radial-gradient(circle at 0 0, black, white 2px)",
+        4,
+        4,
+        64,
+    );
+    draw(
+        b"repeating-radial-gradient(circle closest-side, red -30%, #00f8 1px, lime 90%)",
+        4,
+        4,
+        64,
+    );
+    draw(b"repeating-radial-gradient(1px, aqua, yellow)", 4, 4, 64);
+    draw(
+        b"repeating-linear-gradient(to left, #f00 50%, #f00 75%, #00f 75%, #00f)",
+        8,
+        1,
+        32,
+    );
+    draw(
+        b"repeating-linear-gradient(to right, red 100px, transparent 102px, blue 105px)",
+        16,
+        1,
+        64,
+    );
+    draw(
+        b"repeating-linear-gradient(to right, #ff000080, #00ff0000 1.5px, #0000ff40 3px)",
+        8,
+        1,
+        40,
+    );
+    draw(
+        b"REPEATING-LINEAR-GRADIENT(0DEG, #012 -40px, #fed 60px)",
+        1,
+        16,
+        64,
+    );
+    draw(
+        b"repeating-linear-gradient(200.25deg, red 2px, white 0px, #00f8 4px)",
+        4,
+        4,
+        64,
+    );
+    draw(
+        b"repeating-linear-gradient(to right, #000, #fff .5px)",
+        2,
+        1,
+        8,
+    );
+    draw(
+        b"repeating-linear-gradient(to right, #000 -.5px, #fff)",
+        3,
+        1,
+        12,
+    );
+}
+
+fn draw_repeating_refused() {
+    draw(b"repeating-linear-gradient(red)", 1, 1, 6);
+    draw(b"repeating-radial-gradient(red, blue)", 1, 1, 6);
+    draw(b"repeating -linear-gradient(red, blue)", 1, 1, 6);
+    draw(
+        b"repeating-linear-gradient(45.1deg, red, blue 5px)",
+        1,
+        1,
+        6,
+    );
+    draw(b"repeating-linear-gradient(red, blue)", 2, 2, 15);
+}
+
+fn draw_repeating_rows() {
+    draw_rows(
+        b"repeating-linear-gradient(to top right, black, white 1.5px)",
+        3,
+        4,
+        1,
+        3,
+        26,
+    );
+    draw_rows(
+        b"repeating-linear-gradient(red -40%, white, blue 10%)",
+        1,
+        16,
+        6,
+        14,
+        32,
+    );
+    draw_rows(
+        b"repeating-radial-gradient(circle closest-side at 30% 40%, red, lime .5px, blue .5px, #1234 1px)",
+        4,
+        4,
+        2,
+        4,
+        32,
+    );
+    draw_rows(
+        b"repeating-radial-gradient(circle, red, blue 2px)",
+        2,
+        2000,
+        999,
+        1001,
+        16,
+    );
+    draw_rows(
+        b"repeating-linear-gradient(red 3px, white 3px, transparent 3px)",
+        2,
+        2,
+        1,
+        2,
+        8,
+    );
+    draw_rows(b"repeating-linear-gradient(red, blue)", 2, 2, 1, 1, 8);
+}
+
 fn main() {
     draw_accepted();
     draw_between_units();
     draw_refused();
     draw_strips();
     draw_refused_rows();
+    draw_repeating();
+    draw_repeating_refused();
+    draw_repeating_rows();
 }

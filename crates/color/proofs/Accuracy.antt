@@ -23,9 +23,9 @@ use Rattle.color.proofs.Place.{View, alone, two, view}
 use Rattle.color.proofs.Gap.{Gap, same-test, gap}
 
 -- what holds of every stop whose color is made of bytes: no channel is above alpha, and alpha is at most 255 · 255
-record Sound (a : Stop) : Type 0 where
-  below-alpha : (c : Channel) → a .value c ≤ a .value alpha
-  top : a .value alpha ≤ 65025
+pub record Sound (a : Stop) : Type 0 where
+  pub below-alpha : (c : Channel) → a .value c ≤ a .value alpha
+  pub top : a .value alpha ≤ 65025
 
 sound-stop : (s : PlacedStop) → ColorBytes (s .color) → Sound (stopOf s)
 unfolding premultiplied
@@ -37,7 +37,7 @@ sound-stop s h = record { below-alpha = below; top = omega arith }
     below blue = mul-le-mul-right (s .color .alpha) (h .blue)
     below alpha = le-refl (255 * s .color .alpha)
 
-all-sound : (l : List PlacedStop) → AllBytes l → (i : ℕ) → Sound (getD (map stopOf l) i noStop)
+pub all-sound : (l : List PlacedStop) → AllBytes l → (i : ℕ) → Sound (getD (map stopOf l) i noStop)
 all-sound [] h i = record { below-alpha = λ c. le-refl 0; top = omega arith }
 all-sound (s ∷ l) h zero = sound-stop s (h 0)
 all-sound (s ∷ l) h (suc i) = all-sound l (λ j. h (suc j)) i
@@ -131,7 +131,7 @@ module _ (stops : List Stop) (sound : (i : ℕ) → Sound (getD stops i noStop))
   }
 
 -- the bytes of four are these bytes
-byte-each : (f : Channel → ℕ) → f ≡ byteOf (rgba f)
+pub byte-each : (f : Channel → ℕ) → f ≡ byteOf (rgba f)
 byte-each f = fun-ext each
   where
     each : (c : Channel) → f c ≡ byteOf (rgba f) c

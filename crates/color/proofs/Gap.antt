@@ -8,7 +8,7 @@ use native.Mathlib.Omega.{arith}
 use lib.Dec.{leb}
 use lib.IntN.{ℤ, pos, natAbs, subℕ, _+ℤ_, _*ℤ_, *ℤ-one, one}
 use lib.Signed.{leZ}
-use borrow.Author.Tests.{leb-true, leb-false}
+use borrow.Author.Tests.{leb-true, leb-false, le-leb, lt-leb}
 use Rattle.numbers.proofs.Integers.{diff-pos, diff-eq, diff-add, diff-sub, diff-mul, diff-abs, biased-order, biased-is, same-leb}
 use Rattle.color.specs.Stop.{Location, whole, atOrBelow}
 use Rattle.color.specs.Byte.{units}
@@ -50,17 +50,24 @@ biased-next : (u k : ℕ) → subℕ u k +ℤ pos 1 ≡ subℕ (u + 1) k
 biased-next u k = ap (λ (z : ℤ). subℕ u k +ℤ z) (diff-pos 1) ∙ diff-add u k 1 0 ∙ diff-eq (u + 1) (k + 0) (u + 1) k (omega arith)
 
 module _ (k d u v : ℕ) where
-  abbrev at : Location
+  abbrev pub at : Location
   at = record { num = subℕ v (k * d); den = d }
 
   test-part : (a : ℕ) → atOrBelow at (subℕ a k) ≡ leb (a * d) v
   test-part a = ap (λ (z : ℤ). leZ z (subℕ v (k * d))) (diff-mul a k d) ∙ biased-order (a * d) v (k * d)
 
+  pub within-biased : 0 < d → u * d ≤ v → v < (u + 1) * d → Within (subℕ u k) at
+  within-biased s l h = record {
+    fraction = s;
+    from = test-part u ∙ le-leb (u * d) v l;
+    below = ap (atOrBelow at) (biased-next u k) ∙ test-part (u + 1) ∙ lt-leb ((u + 1) * d) v h;
+  }
+
   module _ (w : Within (subℕ u k) at) where
-    from : u * d ≤ v
+    pub from : u * d ≤ v
     from = leb-true (u * d) v (sym (test-part u) ∙ w .from)
 
-    below : v < (u + 1) * d
+    pub below : v < (u + 1) * d
     below = leb-false ((u + 1) * d) v (sym (test-part (u + 1)) ∙ ap (atOrBelow at) (sym (biased-next u k)) ∙ w .below)
 
     same-biased : (a : ℕ) → atOrBelow at (subℕ a k) ≡ atOrBelow (whole (subℕ u k)) (subℕ a k)

@@ -3,7 +3,7 @@
 use mathlib.Core.Path.{_≡_, refl, sym, ap, ap₂, _∙_, subst, fun-ext}
 use mathlib.Core.List.{List, [], _∷_}
 use mathlib.Core.Bool.{Bool, cond}
-use Prim.Native.Nat.{ℕ, zero, suc, _+_, _-_, _<_}
+use Prim.Native.Nat.{ℕ, zero, suc, _+_, _-_, _≤_, _<_}
 use native.Mathlib.Nat.{zero-add, mul-one, add-zero, add-suc, suc-add, not-suc-le-zero, le-of-suc-le-suc}
 use native.Mathlib.Numerals.{add-one}
 use native.Mathlib.Omega.{arith}
@@ -22,7 +22,7 @@ use Rattle.color.proofs.Gap.{biased-units, test-whole, units-left, unit
 abbrev stopAt : List ℕ → List ℕ → ℕ → ℕ → Stop
 stopAt ps vs n i = record { value = valuesAt vs n; position = unbiased (getD ps i 0) }
 
-length-stops : (n : ℕ) (ps vs : List ℕ) → length (stopsFrom n ps vs) ≡ length ps
+pub length-stops : (n : ℕ) (ps vs : List ℕ) → length (stopsFrom n ps vs) ≡ length ps
 unfolding stopsFrom
 length-stops n [] vs = refl
 length-stops n (p ∷ ps) vs = ap suc (length-stops (suc n) ps vs)
@@ -39,7 +39,7 @@ last-stops n [] vs at = refl
 last-stops n (p ∷ ps) vs at = ap₂ placed (test-whole p at bias) (last-stops (suc n) ps vs at)
 
 module _ (ps vs : List ℕ) (h : Lent ps vs) (at : ℕ) where
-  stop : (i : ℕ) → i < length ps → getD (stopsOf ps vs) i noStop ≡ stopAt ps vs i i
+  pub stop : (i : ℕ) → i < length ps → getD (stopsOf ps vs) i noStop ≡ stopAt ps vs i i
   stop i l = getD-stops 0 ps vs i l ∙ ap (λ (n : ℕ). stopAt ps vs n i) (zero-add i)
 
   around-place : (k : ℕ) → k ≡ lastUpTo ps at → around (stopsOf ps vs) (whole (unbiased at)) ≡ aroundPlace (stopsOf ps vs) k
@@ -62,6 +62,17 @@ module _ (ps vs : List ℕ) (h : Lent ps vs) (at : ℕ) where
   pub color-last : (i : ℕ) → suc i ≡ lastUpTo ps at → suc i ≡ length ps → rgba (λ c. nearest (valuesAt vs i c ⁄ 255)) ≡ colorAt (stopsOf ps vs) (unbiased at)
   color-last i e l =
       alone i (omega arith) (around-place (suc i) e ∙ ap (picked i) (eq-eqb (suc i) (length (stopsOf ps vs)) (l ∙ sym (length-stops 0 ps vs))))
+
+  -- one stop has one color
+  pub color-alone : length ps ≡ 1 → rgba (λ c. nearest (valuesAt vs 0 c ⁄ 255)) ≡ colorAt (stopsOf ps vs) (unbiased at)
+  color-alone e = go (lastUpTo ps at) refl
+    where
+      go : (k : ℕ) → k ≡ lastUpTo ps at → rgba (λ c. nearest (valuesAt vs 0 c ⁄ 255)) ≡ colorAt (stopsOf ps vs) (unbiased at)
+      go zero z = color-first z
+      go (suc i) z =
+          let w : suc i ≤ length ps = rw z (last (λ (p : ℕ). leb p at) 0 ps .within) in
+          let o : i ≡ 0 = omega arith in
+          color-last 0 (ap suc (sym o) ∙ z) (sym e)
 
   module _ (i : ℕ) (e : suc i ≡ lastUpTo ps at) (l : suc i ≡ length ps → ⊥) where
     found : Last (λ (p : ℕ). leb p at) ps 0 (suc i)

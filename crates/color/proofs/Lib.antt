@@ -2,6 +2,9 @@ pub mod Mix
 pub mod Place
 pub mod Gap
 pub mod Accuracy
+pub mod Moves
+pub mod Average
+pub mod Paint
 pub mod Lent
 pub mod Numbers
 pub mod Types

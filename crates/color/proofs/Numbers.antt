@@ -13,8 +13,8 @@ use lib.Signed.{leZ}
 use lib.ListN.{length, take, getD, length-map, length-take}
 use lib.Seq.{take-suc, getD-take}
 use borrow.Author.Tests.{leb-true}
-use Rattle.numbers.specs.Biased.{bias, biased, unbiased}
-use Rattle.numbers.proofs.Integers.{biased-is, biased-order}
+use Rattle.numbers.specs.Biased.{bias, twiceBias, biased, unbiased}
+use Rattle.numbers.proofs.Integers.{biased-is, biased-near, biased-order}
 use Rattle.gradient.specs.declared.Color.{Color}
 use Rattle.gradient.specs.Bytes.{ColorBytes}
 use Rattle.gradient.specs.Lists.{all}
@@ -98,6 +98,13 @@ getD-biased : (l : List PlacedStop) (i : ℕ) → i < length l → getD (positio
 getD-biased [] i h = absurd (not-suc-le-zero h)
 getD-biased (s ∷ l) zero h = refl
 getD-biased (s ∷ l) (suc i) h = getD-biased l i (le-of-suc-le-suc h)
+
+pub position-range : (l : List PlacedStop) → all placeIn l ≡ true → (i : ℕ) → i < length l → getD (positionsOf l) i 0 ≤ twiceBias
+position-range l r i h =
+    let a : ℤ = getD l i blankPlaced .position in
+    let near = leb-true _ _ (all-at placeIn l r i blankPlaced h) in
+    let e = biased-near a bias near in
+    rw (getD-biased l i h) (omega (arith, near, e))
 
 -- positions in the order of what they stand for
 rising-biased : (l : List PlacedStop) → all placeIn l ≡ true → rising l ≡ true → Rising (positionsOf l)

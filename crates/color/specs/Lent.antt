@@ -1,13 +1,15 @@
 -- Placed stops as two lent slices of numbers: for each stop its position, biased, and four numbers for its premultiplied channels.
 -- Assumes nothing.
+use mathlib.Core.Bool.{cond}
 use mathlib.Core.List.{List, [], _∷_}
-use Prim.Native.Nat.{ℕ, suc, _+_, _*_, _≤_, _<_}
+use Prim.Native.Nat.{ℕ, zero, suc, _+_, _-_, _*_, _%_, _≤_, _<_}
 use lib.Dec.{leb}
 use lib.ListN.{length, getD}
 use Rattle.numbers.specs.Biased.{unbiased}
 use Rattle.numbers.specs.Fraction.{Fraction, _⁄_}
 use Rattle.color.specs.Stop.{Channel, Stop, lastPlace}
 use Rattle.color.specs.Byte.{channels}
+use Rattle.color.specs.declared.Rgba.{Rgba}
 
 -- the channels of stop i: four numbers from 4 * i on
 abbrev pub valuesAt : List ℕ → ℕ → Channel → ℕ
@@ -46,6 +48,19 @@ pub record Between (ps vs : List ℕ) (i at : ℕ) : Type 0 where
   pub below : getD ps i 0 ≤ at
   pub above : at < getD ps (i + 1) 0
   pub lent : Lent ps vs
+
+-- a biased location, moved by whole periods until it lies from `first` up to but not including `last`
+abbrev pub movedBiased : ℕ → ℕ → ℕ → ℕ
+movedBiased first last at = cond (leb first at) (first + (at - first) % (last - first)) (last - 1 - (first - 1 - at) % (last - first))
+
+-- the sum of number c of two neighbors, over n pairs of neighbors from stop i on
+unfoldable pub pairsSum : List ℕ → ℕ → ℕ → ℕ → ℕ
+pairsSum vs c i zero = 0
+pairsSum vs c i (suc n) = getD vs (4 * i + c) 0 + getD vs (4 * (i + 1) + c) 0 + pairsSum vs c (i + 1) n
+
+-- the values of a stop that has these bytes
+abbrev pub valuesFor : Rgba → List ℕ
+valuesFor p = 255 * p .red ∷ 255 * p .green ∷ 255 * p .blue ∷ 255 * p .alpha ∷ []
 
 -- the mix of P and Q at x units from the one and y from the other
 abbrev pub mix : ℕ → ℕ → ℕ → ℕ → Fraction

@@ -4,8 +4,8 @@ use gradient::Color;
 use numbers::biased;
 use stops::PlacedStops;
 ghost use mathlib.Core.Path.{_≡_};
-ghost use mathlib.Core.List.{[]};
-ghost use Prim.Native.Nat.{_+_, _-_, _*_, _≤_, _<_, _/_, _^_};
+ghost use mathlib.Core.List.{List, []};
+ghost use Prim.Native.Nat.{ℕ, _+_, _-_, _*_, _≤_, _<_, _/_, _^_};
 ghost use lib.ListN.{length, getD};
 ghost use Rattle.numbers.specs.Biased.{unbiased};
 ghost use Rattle.numbers.specs.Fraction.{_⁄_, nearest};
@@ -14,7 +14,8 @@ ghost use Rattle.stops.specs.Check.{placedOf};
 ghost use Rattle.picture.specs.Picture.{patched};
 ghost use Rattle.color.specs.Stop.{Channel};
 ghost use Rattle.color.specs.Byte.{rgba, colorAt};
-ghost use Rattle.color.specs.Lent.{Small, Lent, Between, stopsOf, valuesAt, lastUpTo, mix, scale, Inverse};
+ghost use Rattle.color.specs.Lent.{Small, Lent, Between, stopsOf, valuesAt, lastUpTo, mix, scale, Inverse, pairsSum, valuesFor};
+ghost use Rattle.color.specs.Average.{equallyApart, averageOf};
 ghost use Rattle.color.specs.Numbers.{Lendable, positionsOf, fourOf, valuesOf};
 
 // A pixel's four bytes, premultiplied.
@@ -157,6 +158,44 @@ pub fn color_at(positions: &[u32], values: &[u32], at: u64) -> Rgba
     between(positions, values, place - 1, at)
 }
 
+// ---- the average color
+
+// The sum of number c of two neighbors, over all pairs of neighbors among n stops.
+fn pairs_sum(values: &[u32], c: usize, n: usize) -> u32
+    requires { ⌜ (c < 4) × (0 < n) × (n ≤ 16) × (4 * n ≤ length (now values)) × Small (now values) ⌝ }
+    ensures { λ r. ⌜ (r ≡ pairsSum (now (values .entry)) c 0 (n - 1)) × (r ≤ 130050 * (n - 1)) ⌝ }
+{
+    let mut sum: u32 = 0;
+    let mut i: usize = 0;
+    while i + 1 < n {
+        sum += values[4 * i + c] + values[4 * (i + 1) + c];
+        i += 1;
+    }
+    sum
+}
+
+// The average of number c, P / 255, of n stops that are equally spaced, to the nearest whole, halves up.
+fn average_channel(values: &[u32], c: usize, n: usize) -> u8
+    requires { ⌜ (c < 4) × (1 < n) × (n ≤ 16) × (4 * n ≤ length (now values)) × Small (now values) ⌝ }
+    ensures { λ r. ⌜ r ≡ nearest (pairsSum (now (values .entry)) c 0 (n - 1) ⁄ (2 * (n - 1) * 255)) ⌝ }
+{
+    let pairs = (n - 1) as u32;
+    ((2 * pairs_sum(values, c, n) + 510 * pairs) / (1020 * pairs)) as u8
+}
+
+// The average color of n stops that are equally spaced.
+pub fn average_color(values: &[u32], n: usize) -> Rgba
+    requires { ⌜ (1 < n) × (n ≤ 16) × (4 * n ≤ length (now values)) × Small (now values) ⌝ }
+    ensures { λ r. ⌜ ((ps : List ℕ) → length ps ≡ n → r ≡ rgba (λ (c : Channel). nearest (averageOf equallyApart (stopsOf ps (now (values .entry))) c))) ⌝ }
+{
+    Rgba {
+        red: average_channel(values, 0, n),
+        green: average_channel(values, 1, n),
+        blue: average_channel(values, 2, n),
+        alpha: average_channel(values, 3, n),
+    }
+}
+
 // ---- placed stops as lent numbers
 
 // Stores the positions of the stops from `at` on.
@@ -188,6 +227,17 @@ fn store_color(words: &mut [u32], at: usize, c: Color)
     words[at + 1] = premultiply(c.green, c.alpha);
     words[at + 2] = premultiply(c.blue, c.alpha);
     words[at + 3] = premultiply(255, c.alpha);
+}
+
+// Stores the four values of a stop that has these bytes, from `at` on.
+pub fn store_bytes(words: &mut [u32], at: usize, p: Rgba)
+    requires { ⌜ at + 4 ≤ length (now words) ⌝ }
+    ensures { λ _. ⌜ now (words .exit) ≡ patched (now (words .entry)) at (valuesFor p) ⌝ }
+{
+    words[at] = 255 * (p.red as u32);
+    words[at + 1] = 255 * (p.green as u32);
+    words[at + 2] = 255 * (p.blue as u32);
+    words[at + 3] = 255 * (p.alpha as u32);
 }
 
 // Stores the values of the stops from `at` on.

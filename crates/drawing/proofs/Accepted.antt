@@ -1,7 +1,8 @@
 -- What the reply 0 of a drawing call says, and what is painted then.
 -- Assumes nothing.
 use mathlib.Core.Path.{_≡_}
-use mathlib.Core.List.{List, map}
+use mathlib.Core.Bool.{Bool}
+use mathlib.Core.List.{List}
 use Prim.Native.Nat.{ℕ, _<_}
 use native.Mathlib.Omega.{arith}
 use Rattle.replies.specs.Room.{stripReply}
@@ -18,9 +19,8 @@ use Rattle.stops.specs.declared.PlacedStop.{PlacedStop}
 use Rattle.stops.specs.declared.PlacedStops.{PlacedStops}
 use Rattle.stops.proofs.Laws.{accepted-placed, accepted-places}
 use Rattle.placing.proofs.Replies.{box-is}
-use Rattle.color.specs.Stop.{stopOf}
+use Rattle.color.specs.Paint.{Paint}
 use Rattle.ramp.specs.Ramp.{Made}
-use Rattle.ramp.proofs.Heads.{color-bytes}
 use Rattle.picture.proofs.Rows.{strips-alike}
 use Rattle.color.specs.Numbers.{Lendable}
 use Rattle.picture.specs.Picture.{strip}
@@ -40,13 +40,13 @@ roomy w h a b n e =
 
 pub record Ready (p : PlacedStops) : Type 0 where
   pub lendable : Lendable p
-  pub some : 0 < p .count
+  pub two : 1 < p .count
 
 -- stops that are accepted can be lent
 pub ready : (p : PlacedStops) → checkPlacedOf p ≡ 0 → Ready p
 ready p e =
     let a = accepted-placed p e in
-    record { lendable = record { fit = a .fit; range = accepted-places p a; rising = a .rising }; some = omega (arith, a .two) }
+    record { lendable = record { fit = a .fit; range = accepted-places p a; rising = a .rising }; two = omega (arith, a .two) }
 
 -- ---- the reply 0 of the two calls
 pub record Drawable (g : Gradient) (w h a b n : ℕ) : Type 0 where
@@ -68,13 +68,13 @@ along g p w h n e =
     record { room = roomy w h 0 h n (k .0); gradient = accepted g (l .0); stops = ready p (l .1) }
 
 -- ---- what is drawn of a ramp
-pub same-picture : (ss : List PlacedStop) (r : List ℕ) → Made ss r → (l : Line) (z : Strip)
-    → stripOf r l z ≡ strip (pixelOf (ruleIn l (z .w) (z .h)) (map stopOf ss)) (z .w) (z .a) (z .b)
-same-picture ss r m l z =
-    strips-alike (rampPixel r l (z .w) (z .h)) (pixelOf (ruleIn l (z .w) (z .h)) (map stopOf ss)) (z .w) (z .a) (z .b)
-    (λ i j h k n. color-bytes ss r m (locationBy (ruleIn l (z .w) (z .h)) i j))
+pub same-picture : (p : Paint) (r : List ℕ) → Made p r → (l : Line) (z : Strip)
+    → stripOf r l z ≡ strip (pixelOf (ruleIn l (z .w) (z .h)) p) (z .w) (z .a) (z .b)
+same-picture p r m l z =
+    strips-alike (rampPixel r l (z .w) (z .h)) (pixelOf (ruleIn l (z .w) (z .h)) p) (z .w) (z .a) (z .b)
+    (λ i j h k n. m .colors (locationBy (ruleIn l (z .w) (z .h)) i j))
 
 -- ---- a painted buffer, said of equal rules and stops
-pub painted-same : {rule rule′ : Rule} {stops stops′ : List PlacedStop} {w a b : ℕ} {before after : List ℕ} → rule ≡ rule′ → stops ≡ stops′
-    → Painted rule stops w a b before after → Painted rule′ stops′ w a b before after
+pub painted-same : {rule rule′ : Rule} {repeating : Bool} {stops stops′ : List PlacedStop} {w a b : ℕ} {before after : List ℕ} → rule ≡ rule′ → stops ≡ stops′
+    → Painted rule repeating stops w a b before after → Painted rule′ repeating stops′ w a b before after
 painted-same e k p = rw (← e, ← k) p

@@ -5,7 +5,6 @@ use replies::DONE;
 use rows::Strip;
 use stops::PlacedStops;
 ghost use mathlib.Core.Path.{_≡_};
-ghost use mathlib.Core.List.{map};
 ghost use Prim.Native.Nat.{_*_, _<_};
 ghost use lib.ListN.{length};
 ghost use Rattle.gradient.specs.Check.{Accepted};
@@ -14,24 +13,23 @@ ghost use Rattle.line.specs.Line.{ruleOf};
 ghost use Rattle.line.specs.Represented.{ruleIn};
 ghost use Rattle.stops.specs.Check.{placedOf};
 ghost use Rattle.placing.specs.Placed.{placedIn};
-ghost use Rattle.color.specs.Stop.{stopOf};
 ghost use Rattle.color.specs.Numbers.{Lendable};
 ghost use Rattle.rows.specs.Pixel.{Placed, Rows};
 ghost use Rattle.drawing.specs.Replies.{gradientRowsReply, gradientReply, stopsReply};
-ghost use Rattle.drawing.specs.Drawn.{DrawnRows, Drawn};
+ghost use Rattle.drawing.specs.Drawn.{gradientPaint, stopsPaint, DrawnRows, Drawn};
 ghost use Rattle.drawing.specs.Inner.{Painted};
 
 fn no_ramp() -> [u32; ramp::HEAD] {
     [0u32; ramp::HEAD]
 }
 
-// Draws a strip of the picture of placed stops, then zeros.
-fn draw_placed(l: Line, p: PlacedStops, z: Strip, buf: &mut [u8])
-    requires { ⌜ Placed l (z .w) (z .h) × Lendable p × (0 < p .count) × Rows z (length (now buf)) ⌝ }
-    ensures { λ _. ⌜ Painted (ruleIn l (z .w) (z .h)) (placedOf p) (z .w) (z .a) (z .b) (now (buf .entry)) (now (buf .exit)) ⌝ }
+// Draws a strip of the picture that placed stops color, repeated or not, then zeros.
+fn draw_placed(l: Line, p: PlacedStops, repeating: bool, z: Strip, buf: &mut [u8])
+    requires { ⌜ Placed l (z .w) (z .h) × Lendable p × (1 < p .count) × Rows z (length (now buf)) ⌝ }
+    ensures { λ _. ⌜ Painted (ruleIn l (z .w) (z .h)) repeating (placedOf p) (z .w) (z .a) (z .b) (now (buf .entry)) (now (buf .exit)) ⌝ }
 {
     let mut stops = no_ramp();
-    ramp::set_stops(&mut stops, p);
+    ramp::set_stops(&mut stops, p, repeating);
     strips::draw(&stops, l, z, buf);
     picture::clear_from(buf, 4 * z.w * (z.b - z.a));
 }
@@ -39,12 +37,12 @@ fn draw_placed(l: Line, p: PlacedStops, z: Strip, buf: &mut [u8])
 // Draws a strip of a gradient that is accepted, then zeros.
 pub fn draw_strip(g: Gradient, z: Strip, buf: &mut [u8])
     requires { ⌜ Box (z .w) (z .h) × Accepted g × Rows z (length (now buf)) ⌝ }
-    ensures { λ _. ⌜ Painted (ruleOf (g .shape) (z .w) (z .h)) (placedIn g (z .w) (z .h)) (z .w) (z .a) (z .b) (now (buf .entry)) (now (buf .exit)) ⌝ }
+    ensures { λ _. ⌜ Painted (ruleOf (g .shape) (z .w) (z .h)) (g .repeating) (placedIn g (z .w) (z .h)) (z .w) (z .a) (z .b) (now (buf .entry)) (now (buf .exit)) ⌝ }
 {
     let shape = g.shape;
     let l = line::line_of(shape, z.w, z.h);
     let p = placing::place_in_box(g, z.w, z.h);
-    draw_placed(l, p, z, buf);
+    draw_placed(l, p, g.repeating, z, buf);
 }
 
 fn gradient_reply(g: Gradient, w: usize, h: usize, a: usize, b: usize, n: usize) -> u32
@@ -66,7 +64,7 @@ pub fn draw_gradient_rows(
     b: usize,
     buf: &mut [u8],
 ) -> u32
-    ensures { λ r. ⌜ DrawnRows (gradientRowsReply g w h a b (length (now (buf .entry)))) (ruleOf (g .shape) w h) (map stopOf (placedIn g w h)) w a b
+    ensures { λ r. ⌜ DrawnRows (gradientRowsReply g w h a b (length (now (buf .entry)))) (ruleOf (g .shape) w h) (gradientPaint g w h) w a b
         r (now (buf .entry)) (now (buf .exit)) ⌝ }
 {
     let r = gradient_reply(g, w, h, a, b, buf.len());
@@ -79,7 +77,7 @@ pub fn draw_gradient_rows(
 
 // Draws a gradient.
 pub fn draw_gradient(g: Gradient, w: usize, h: usize, buf: &mut [u8]) -> u32
-    ensures { λ r. ⌜ Drawn (gradientReply g w h (length (now (buf .entry)))) (ruleOf (g .shape) w h) (map stopOf (placedIn g w h)) w h
+    ensures { λ r. ⌜ Drawn (gradientReply g w h (length (now (buf .entry)))) (ruleOf (g .shape) w h) (gradientPaint g w h) w h
         r (now (buf .entry)) (now (buf .exit)) ⌝ }
 {
     draw_gradient_rows(g, w, h, 0, h, buf)
@@ -95,9 +93,9 @@ fn stops_reply(g: Gradient, p: PlacedStops, w: usize, h: usize, n: usize) -> u32
     replies::lower(gradient::check(g), stops::check_placed(p))
 }
 
-// Draws placed stops along a gradient's direction, or from its circle's center.
+// Draws placed stops along a gradient's direction, or from its circle's center, repeated where the gradient repeats.
 pub fn draw_stops(g: Gradient, p: PlacedStops, w: usize, h: usize, buf: &mut [u8]) -> u32
-    ensures { λ r. ⌜ Drawn (stopsReply g p w h (length (now (buf .entry)))) (ruleOf (g .shape) w h) (map stopOf (placedOf p)) w h
+    ensures { λ r. ⌜ Drawn (stopsReply g p w h (length (now (buf .entry)))) (ruleOf (g .shape) w h) (stopsPaint g p) w h
         r (now (buf .entry)) (now (buf .exit)) ⌝ }
 {
     let r = stops_reply(g, p, w, h, buf.len());
@@ -106,6 +104,6 @@ pub fn draw_stops(g: Gradient, p: PlacedStops, w: usize, h: usize, buf: &mut [u8
     }
     let shape = g.shape;
     let l = line::line_of(shape, w, h);
-    draw_placed(l, p, Strip { w, h, a: 0, b: h }, buf);
+    draw_placed(l, p, g.repeating, Strip { w, h, a: 0, b: h }, buf);
     DONE
 }

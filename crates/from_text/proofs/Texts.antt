@@ -24,7 +24,7 @@ use Rattle.drawing.specs.Drawn.{DrawnRows}
 use Rattle.drawing.specs.Inner.{Painted}
 use Rattle.drawing.proofs.Accepted.{roomy}
 use Rattle.drawing.proofs.Accurate.{drawn}
-use Rattle.from_text.specs.Text.{placeTextReply, placeTextOf, drawRowsReply, textRule, textStops}
+use Rattle.from_text.specs.Text.{placeTextReply, placeTextOf, drawRowsReply, textRule, textPaint}
 
 none : (r : ℕ) (p : PlacedStops) → (r ≡ 0 → ⊥) → _≡_ {A = Placing} (record { reply = r; stops = noStops }) (record { reply = r; stops = handedOut r p })
 none zero p n = absurd (n refl)
@@ -54,10 +54,10 @@ module _ (text : List ℕ) (w h : ℕ) where
 
     -- and what is painted of it is drawn of the text
     pub drawn-text : (a b : ℕ) (before after : List ℕ) → stripReply w h a b (length before) ≡ 0
-        → Painted (ruleOf (reading .gradient .shape) w h) (placedIn (reading .gradient) w h) w a b before after
-        → DrawnRows (drawRowsReply text w h a b (length before)) (textRule text w h) (textStops text w h) w a b 0 before after
+        → Painted (ruleOf (reading .gradient .shape) w h) (reading .gradient .repeating) (placedIn (reading .gradient) w h) w a b before after
+        → DrawnRows (drawRowsReply text w h a b (length before)) (textRule text w h) (textPaint text w h) w a b 0 before after
     drawn-text a b before after room d =
-        let k = subst (λ (x : Reading). Painted (ruleOf (x .gradient .shape) w h) (placedIn (x .gradient) w h) w a b before after) e d in
+        let k = subst (λ (x : Reading). Painted (ruleOf (x .gradient .shape) w h) (x .gradient .repeating) (placedIn (x .gradient) w h) w a b before after) e d in
         let zero : drawRowsReply text w h a b (length before) ≡ 0 = rw (room, read-zero) in
-        drawn (drawRowsReply text w h a b (length before)) (textRule text w h) w a b before after (placedIn (readOf text .gradient) w h)
+        drawn (drawRowsReply text w h a b (length before)) (textRule text w h) w a b before after (readOf text .gradient .repeating) (placedIn (readOf text .gradient) w h)
         (bounds .some-scale (readOf text .gradient .shape) w h (roomy w h a b (length before) room .box)) zero k

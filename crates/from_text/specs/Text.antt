@@ -1,6 +1,6 @@
--- The replies and the stops of a text in a box of w by h pixels: first the box, the rows and the buffer are judged, then the text.
+-- The replies and the stops of a text, and what it colors by, in a box of w by h pixels: first the box, the rows and the buffer are judged, then the text.
 -- Assumes nothing.
-use mathlib.Core.List.{List, map}
+use mathlib.Core.List.{List}
 use Prim.Native.Nat.{ℕ}
 use Rattle.replies.specs.Replies.{_orElse_}
 use Rattle.replies.specs.Room.{boxReply, stripReply, roomReply}
@@ -10,7 +10,8 @@ use Rattle.reader.specs.Reading.{readOf}
 use Rattle.placing.specs.declared.Placing.{Placing}
 use Rattle.placing.specs.Placed.{placedIn, listed}
 use Rattle.placing.specs.Reply.{handedOut}
-use Rattle.color.specs.Stop.{Stop, stopOf}
+use Rattle.color.specs.Paint.{Paint}
+use Rattle.drawing.specs.Drawn.{gradientPaint}
 
 -- placing
 unfoldable pub placeTextReply : List ℕ → ℕ → ℕ → ℕ
@@ -30,9 +31,9 @@ drawRowsReply text w h a b n = stripReply w h a b n orElse readOf text .reply
 abbrev pub drawTextReply : List ℕ → ℕ → ℕ → ℕ → ℕ
 drawTextReply text w h n = roomReply w h n orElse readOf text .reply
 
--- the rule of a text's locations, and its stops
+-- the rule of a text's locations, and what it colors by
 abbrev pub textRule : List ℕ → ℕ → ℕ → Rule
 textRule text w h = ruleOf (readOf text .gradient .shape) w h
 
-abbrev pub textStops : List ℕ → ℕ → ℕ → List Stop
-textStops text w h = map stopOf (placedIn (readOf text .gradient) w h)
+abbrev pub textPaint : List ℕ → ℕ → ℕ → Paint
+textPaint text w h = gradientPaint (readOf text .gradient) w h

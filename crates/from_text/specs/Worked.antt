@@ -9,7 +9,7 @@ use lib.IntN.{ℤ, pos, negsuc}
 use lib.ListN.{getD}
 use Rattle.replies.specs.Replies.{done}
 use Rattle.replies.specs.Room.{boxIn, rowsIn, stripReply}
-use Rattle.numbers.specs.Floor.{floorDiv}
+use Rattle.numbers.specs.Floor.{floorDiv, remainder}
 use Rattle.numbers.specs.Units.{toUnit, lengthUnits, percentageUnits}
 use Rattle.root.specs.Root.{rootIn, rootOf}
 use Rattle.gradient.specs.Range.{shapeIn}
@@ -36,8 +36,10 @@ use Rattle.placing.specs.Placed.{atPositions, placedStops, placedIn}
 use Rattle.color.specs.Stop.{premultiplied, lastPlace, around}
 use Rattle.color.specs.Byte.{mixed}
 use Rattle.picture.specs.Picture.{joined, row, strip, picture}
+use Rattle.color.specs.Average.{totalLength, entriesSum}
+use Rattle.color.specs.Paint.{movedTo}
 use Rattle.rows.specs.Pixel.{pixelOf}
-use Rattle.from_text.specs.Text.{placeTextReply, drawTextReply, textRule, textStops}
+use Rattle.from_text.specs.Text.{placeTextReply, drawTextReply, textRule, textPaint}
 
 -- what the definitions give, and what the case states
 record Case : Type 0 where
@@ -59,7 +61,7 @@ drawingReply t w h = pos (drawTextReply (bytes t) w h (4 * w * h))
 
 -- that reply, and the picture of the text in a box
 abbrev drawnFrom : String → ℕ → ℕ → List ℤ
-drawnFrom t w h = drawingReply t w h ∷ map pos (picture (pixelOf (textRule (bytes t) w h) (textStops (bytes t) w h)) w h)
+drawnFrom t w h = drawingReply t w h ∷ map pos (picture (pixelOf (textRule (bytes t) w h) (textPaint (bytes t) w h)) w h)
 
 -- the reply to placing a text, and the positions of its stops on a line of 200 px
 abbrev placedFrom : String → List ℤ
@@ -72,8 +74,8 @@ slanted t =
     ∷ pos (line.lengthOf (readOf (bytes t) .gradient .shape) 3 4)
     ∷ pos (locationBy (textRule (bytes t) 3 4) 0 3)
     ∷ pos (locationBy (textRule (bytes t) 3 4) 2 0)
-    ∷ pos (getD (pixelOf (textRule (bytes t) 3 4) (textStops (bytes t) 3 4) 0 3) 0 0)
-    ∷ pos (getD (pixelOf (textRule (bytes t) 3 4) (textStops (bytes t) 3 4) 2 0) 0 0)
+    ∷ pos (getD (pixelOf (textRule (bytes t) 3 4) (textPaint (bytes t) 3 4) 0 3) 0 0)
+    ∷ pos (getD (pixelOf (textRule (bytes t) 3 4) (textPaint (bytes t) 3 4) 2 0) 0 0)
     ∷ []
 
 abbrev cases : List Case
@@ -94,3 +96,16 @@ cases =
 pub p1-p10 : map (λ c. c .given) cases ≡ map (λ c. c .stated) cases
 unfolding floorDiv toUnit rootIn rootOf shapeIn radiusOf line.lengthOf line.ruleOf locationBy norm lineLength along vectorOf peekOf restOf text.run past isSpace gapOf lower keywordOf wholeOf colorNames rowOf namedOf colorOf isDigit decimal isNegative afterSign thousandths fractionOf magnitudeOf unitOf numberOf horizontalOf verticalOf horizontalFirst verticalFirst toOf angleOf directionOf extentOf sizeOf circleFirst sizeFirst circleOf atOf radialOf circle.lengthOf coordinateOf partOf secondOf position.positionOf itemsOf twoStopsOf stops.stopPositionOf stops.stopOf stops.stopsOf withStops linearOf circularOf closesOf bodyOf kindOf functionOf readReply readOf boxIn rowsIn stripReply placeTextReply firstAt lastAt raisedFrom next spacedFrom fixup.run atPositions placedStops placedIn premultiplied lastPlace around mixed joined row strip
 p1-p10 = refl
+
+-- ---- T-01
+-- "red, white, blue all at 0 gives 191 128 191 255"; and bars of 2 px from −1 px on, in letters of any case
+abbrev repeatingCases : List Case
+repeatingCases =
+    (drawnFrom "repeating-linear-gradient(to top left, red 0, white 0, blue 0)" 1 1 gives pos 191 ∷ pos 128 ∷ pos 191 ∷ pos 255 ∷ [])
+    ∷ (drawnFrom "Repeating-Linear-Gradient(to right, red -1px, red 0px, lime 0px, lime 1px)" 3 1
+    gives pos 0 ∷ pos 255 ∷ pos 0 ∷ pos 255 ∷ pos 255 ∷ pos 0 ∷ pos 0 ∷ pos 255 ∷ pos 0 ∷ pos 255 ∷ pos 0 ∷ pos 255 ∷ [])
+    ∷ []
+
+pub t-01 : map (λ c. c .given) repeatingCases ≡ map (λ c. c .stated) repeatingCases
+unfolding floorDiv toUnit rootIn rootOf shapeIn radiusOf line.lengthOf line.ruleOf locationBy norm lineLength along vectorOf peekOf restOf text.run past isSpace gapOf lower keywordOf wholeOf colorNames rowOf namedOf colorOf isDigit decimal isNegative afterSign thousandths fractionOf magnitudeOf unitOf numberOf horizontalOf verticalOf horizontalFirst verticalFirst toOf angleOf directionOf extentOf sizeOf circleFirst sizeFirst circleOf atOf radialOf circle.lengthOf coordinateOf partOf secondOf position.positionOf itemsOf twoStopsOf stops.stopPositionOf stops.stopOf stops.stopsOf withStops linearOf circularOf closesOf bodyOf kindOf functionOf readReply readOf boxIn rowsIn stripReply placeTextReply firstAt lastAt raisedFrom next spacedFrom fixup.run atPositions placedStops placedIn premultiplied lastPlace around mixed joined row strip movedTo remainder totalLength entriesSum
+t-01 = refl

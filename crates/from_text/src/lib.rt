@@ -5,7 +5,7 @@ use rows::Strip;
 ghost use mathlib.Core.Path.{_≡_};
 ghost use lib.ListN.{length};
 ghost use Rattle.stops.specs.Blank.{noStops};
-ghost use Rattle.from_text.specs.Text.{placeTextOf, drawRowsReply, drawTextReply, textRule, textStops};
+ghost use Rattle.from_text.specs.Text.{placeTextOf, drawRowsReply, drawTextReply, textRule, textPaint};
 ghost use Rattle.drawing.specs.Drawn.{DrawnRows, Drawn};
 
 // No stops, with a reply.
@@ -36,7 +36,7 @@ pub fn place_text(s: &[u8], w: usize, h: usize) -> Placing
 // Draws rows a up to b of a text.
 pub fn draw_text_rows(s: &[u8], w: usize, h: usize, a: usize, b: usize, buf: &mut [u8]) -> u32
     ensures { λ r. ⌜ DrawnRows (drawRowsReply (now (s .entry)) w h a b (length (now (buf .entry)))) (textRule (now (s .entry)) w h)
-        (textStops (now (s .entry)) w h) w a b r (now (buf .entry)) (now (buf .exit)) ⌝ }
+        (textPaint (now (s .entry)) w h) w a b r (now (buf .entry)) (now (buf .exit)) ⌝ }
 {
     let r = replies::strip_reply(w, h, a, b, buf.len());
     if r != DONE {
@@ -53,7 +53,7 @@ pub fn draw_text_rows(s: &[u8], w: usize, h: usize, a: usize, b: usize, buf: &mu
 // Draws a text.
 pub fn draw_text(s: &[u8], w: usize, h: usize, buf: &mut [u8]) -> u32
     ensures { λ r. ⌜ Drawn (drawTextReply (now (s .entry)) w h (length (now (buf .entry)))) (textRule (now (s .entry)) w h)
-        (textStops (now (s .entry)) w h) w h r (now (buf .entry)) (now (buf .exit)) ⌝ }
+        (textPaint (now (s .entry)) w h) w h r (now (buf .entry)) (now (buf .exit)) ⌝ }
 {
     draw_text_rows(s, w, h, 0, h, buf)
 }

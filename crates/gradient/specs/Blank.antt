@@ -20,7 +20,7 @@ blankStop = record { color = blankColor; position = P.Auto }
 
 -- no gradient: it has no stops
 abbrev pub blankGradient : Gradient
-blankGradient = record { shape = Sh.Linear (D.Side S.Top); count = 0; stops = replicate 16 blankStop }
+blankGradient = record { shape = Sh.Linear (D.Side S.Top); repeating = false; count = 0; stops = replicate 16 blankStop }
 
 -- whether a place is blank
 abbrev pub isAuto : Position → Bool

@@ -1,6 +1,7 @@
 -- Replies worked out by computation.
 -- Assumes nothing.
 use mathlib.Core.Path.{_≡_, refl}
+use mathlib.Core.Bool.{Bool, false}
 use mathlib.Core.List.{List, [], _∷_, _++_}
 use Prim.Native.Nat.{ℕ, _-_}
 use lib.IntN.{ℤ, pos, negsuc}
@@ -32,7 +33,7 @@ at t = red (P.Length t)
 
 -- a gradient of n stops, with the given first places and blank ones after them
 abbrev shaped : Shape → ℕ → List Stop → Gradient
-shaped s n first = record { shape = s; count = n; stops = first ++ replicate (16 - length first) blankStop }
+shaped s n first = record { shape = s; repeating = false; count = n; stops = first ++ replicate (16 - length first) blankStop }
 
 abbrev toward : Direction → ℕ → List Stop → Gradient
 toward d = shaped (Sh.Linear d)
@@ -68,3 +69,8 @@ seventeen :
     × (checkOf (toTop 17 (replicate 15 auto ++ (at (pos 8192001) ∷ []))) ≡ 5)
 unfolding checkOf blankPast stopsIn shapeIn isBlank
 seventeen = (refl, refl)
+
+-- a gradient that repeats is judged like one that does not
+repeating-alike : (b : Bool) (g : Gradient) → checkOf (record { shape = g .shape; repeating = b; count = g .count; stops = g .stops }) ≡ checkOf g
+unfolding checkOf blankPast stopsIn
+repeating-alike b g = refl

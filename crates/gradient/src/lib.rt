@@ -76,9 +76,11 @@ pub enum Shape {
     Circle(Size, Coordinate, Coordinate),
 }
 
-// The color stops are the first `count` places of the array, and the places after them are blank.
+// The color stops are the first `count` places of the array, and the places after them are blank. A repeating gradient is one of
+// `repeating-linear-gradient()` or `repeating-radial-gradient()`.
 pub struct Gradient {
     pub shape: Shape,
+    pub repeating: bool,
     pub count: u32,
     pub stops: [Stop; 16],
 }
@@ -107,6 +109,7 @@ pub fn blank_gradient() -> Gradient
     let stops = [blank_stop(); 16];
     Gradient {
         shape: Shape::Linear(Direction::Side(Side::Top)),
+        repeating: false,
         count: 0,
         stops: stops,
     }

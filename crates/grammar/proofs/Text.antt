@@ -29,59 +29,59 @@ use Rattle.grammar.specs.Words.{Every, Space, Spaced, spaced, Word}
 use Rattle.grammar.specs.Stops.{StopsText}
 use Rattle.grammar.specs.Directions.{DirectionText}
 use Rattle.grammar.specs.Circles.{ShapeText}
-use Rattle.grammar.specs.Text.{LinearText, plain, directed, RadialText, circular, FunctionText, linear, radial, InGrammar}
+use Rattle.grammar.specs.Text.{LinearText, plain, directed, RadialText, circular, FunctionText, linear, radial, repeating-linear, repeating-radial, InGrammar}
 use Rattle.grammar.proofs.Laws.{Is, Reads, some, nothing, Means, means, no, meant, reads-whole, whole-reads, nil-past, blank-past, run-space, reads-or, reads-for, space-past, word-reads, unlike, word-high, every-append, space-plain}
 use Rattle.grammar.proofs.Stops.{Joined, one, many, joined, more-items, reads-stops, stops-read, stops-not}
 use Rattle.grammar.proofs.Directions.{reads-direction, direction-reads, direction-first, direction-plain}
 use Rattle.grammar.proofs.Circles.{reads-shape, shape-reads, shape-first, shape-plain}
 
 -- ---- sound
-with-stops : {l m : List ℕ} {is : List (List ℕ)} (R : List ℕ → Written → Type 0) (s : Shape)
-    → ((ss : List Stop) → StopsText m ss → R l (written s ss)) → Joined m is → Means R l (withStops exact s is)
+with-stops : {l m : List ℕ} {is : List (List ℕ)} (R : List ℕ → Written → Type 0) (s : Shape) (b : Bool)
+    → ((ss : List Stop) → StopsText m ss → R l (written s b ss)) → Joined m is → Means R l (withStops exact s b is)
 unfolding withStops
-with-stops {l} {m} R s f j = go (reads-stops j)
+with-stops {l} {m} R s b f j = go (reads-stops j)
   where
-    go : {r : Read (List Stop)} → Means StopsText m r → Means R l (r >>= λ ss _. got (written s ss) [])
+    go : {r : Read (List Stop)} → Means StopsText m r → Means R l (r >>= λ ss _. got (written s b ss) [])
     go (means {a = ss} h) = means (f ss h)
     go no = no
 
 -- no items are no stops
-no-stops : (s : Shape) → refused ≡ withStops exact s []
+no-stops : (s : Shape) (b : Bool) → refused ≡ withStops exact s b []
 unfolding withStops twoStopsOf stopsOf
-no-stops s = refl
+no-stops s b = refl
 
-reads-linear : (l : List ℕ) → Means LinearText l (linearOf exact l)
+reads-linear : (b : Bool) (l : List ℕ) → Means (LinearText b) l (linearOf exact b l)
 unfolding linearOf
-reads-linear l = go (joined l)
+reads-linear b l = go (joined l)
   where
-    alone : {l : List ℕ} {is : List (List ℕ)} (r : Read Direction) → Joined l is → others is ≡ [] → Means LinearText l (byDirection exact r is)
-    alone {is} (got d k) j e = rw (e, ← no-stops (Sh.Linear d)) no
-    alone refused j e = with-stops LinearText (Sh.Linear (D.Side S.Bottom)) (λ ss h. plain h) j
+    alone : {l : List ℕ} {is : List (List ℕ)} (r : Read Direction) → Joined l is → others is ≡ [] → Means (LinearText b) l (byDirection exact r b is)
+    alone {is} (got d k) j e = rw (e, ← no-stops (Sh.Linear d) b) no
+    alone refused j e = with-stops (LinearText b) (Sh.Linear (D.Side S.Bottom)) b (λ ss h. plain h) j
 
     ahead : {i m : List ℕ} {is : List (List ℕ)} {r : Read Direction} → Joined m is → Means (Spaced DirectionText) i r
-        → Means LinearText (i ++ (code "," ∷ m)) (byDirection exact r (i ∷ is))
-    ahead j (means {a = d} h) = with-stops LinearText (Sh.Linear d) (λ ss q. directed h q) j
-    ahead j no = with-stops LinearText (Sh.Linear (D.Side S.Bottom)) (λ ss h. plain h) (many j)
+        → Means (LinearText b) (i ++ (code "," ∷ m)) (byDirection exact r b (i ∷ is))
+    ahead j (means {a = d} h) = with-stops (LinearText b) (Sh.Linear d) b (λ ss q. directed h q) j
+    ahead j no = with-stops (LinearText b) (Sh.Linear (D.Side S.Bottom)) b (λ ss h. plain h) (many j)
 
-    go : {l : List ℕ} {is : List (List ℕ)} → Joined l is → Means LinearText l (byDirection exact (wholeOf (directionOf exact) (first is)) is)
+    go : {l : List ℕ} {is : List (List ℕ)} → Joined l is → Means (LinearText b) l (byDirection exact (wholeOf (directionOf exact) (first is)) b is)
     go (one {i}) = alone (wholeOf (directionOf exact) i) one refl
     go (many {i} j) = ahead j (reads-whole DirectionText (directionOf exact) reads-direction i)
 
-reads-circular : (l : List ℕ) → Means RadialText l (circularOf exact l)
+reads-circular : (b : Bool) (l : List ℕ) → Means (RadialText b) l (circularOf exact b l)
 unfolding circularOf
-reads-circular l = go (joined l)
+reads-circular b l = go (joined l)
   where
     ahead : {i m : List ℕ} {is : List (List ℕ)} {r : Read Shape} → Joined m is → Means (Spaced ShapeText) i r
-        → Means RadialText (i ++ (code "," ∷ m)) (r >>= λ s _. withStops exact s is)
-    ahead j (means {a = s} h) = with-stops RadialText s (λ ss q. circular h q) j
+        → Means (RadialText b) (i ++ (code "," ∷ m)) (r >>= λ s _. withStops exact s b is)
+    ahead j (means {a = s} h) = with-stops (RadialText b) s b (λ ss q. circular h q) j
     ahead j no = no
 
-    alone : (l : List ℕ) (r : Read Shape) → Means RadialText l (r >>= λ s _. withStops exact s [])
-    alone l (got s k) = rw (← no-stops s) no
+    alone : (l : List ℕ) (r : Read Shape) → Means (RadialText b) l (r >>= λ s _. withStops exact s b [])
+    alone l (got s k) = rw (← no-stops s b) no
     alone l refused = no
 
     go : {l : List ℕ} {is : List (List ℕ)} → Joined l is
-        → Means RadialText l (wholeOf (radialOf exact) (first is) >>= λ s _. withStops exact s (others is))
+        → Means (RadialText b) l (wholeOf (radialOf exact) (first is) >>= λ s _. withStops exact s b (others is))
     go (one {i}) = alone i (wholeOf (radialOf exact) i)
     go (many {i} j) = ahead j (reads-whole ShapeText (radialOf exact) reads-shape i)
 
@@ -107,14 +107,18 @@ reads-body (b ∷ l) = go (is ")" b) refl (isNil (past isSpace l)) refl (reads-b
 
 -- the function: its name, its body and its closing bracket
 data KindText : List ℕ → Kind → Type 0 where
-  linear-name : {l : List ℕ} → Word "linear-gradient(" l → KindText l K.Linear
-  radial-name : {l : List ℕ} → Word "radial-gradient(" l → KindText l K.Radial
+  linear-name : {l : List ℕ} → Word "linear-gradient(" l → KindText l (K.Linear false)
+  radial-name : {l : List ℕ} → Word "radial-gradient(" l → KindText l (K.Radial false)
+  repeating-linear-name : {l : List ℕ} → Word "repeating-linear-gradient(" l → KindText l (K.Linear true)
+  repeating-radial-name : {l : List ℕ} → Word "repeating-radial-gradient(" l → KindText l (K.Radial true)
 
 reads-kind : (l : List ℕ) → Reads KindText l (kindOf l)
 unfolding kindOf
 reads-kind l =
-    reads-or (reads-for KindText "linear-gradient(" K.Linear refl (λ _ h. linear-name h) l)
-    (reads-for KindText "radial-gradient(" K.Radial refl (λ _ h. radial-name h) l)
+    reads-or (reads-for KindText "linear-gradient(" (K.Linear false) refl (λ _ h. linear-name h) l)
+    (reads-or (reads-for KindText "radial-gradient(" (K.Radial false) refl (λ _ h. radial-name h) l)
+    (reads-or (reads-for KindText "repeating-linear-gradient(" (K.Linear true) refl (λ _ h. repeating-linear-name h) l)
+    (reads-for KindText "repeating-radial-gradient(" (K.Radial true) refl (λ _ h. repeating-radial-name h) l)))
 
 data Called : List ℕ → Written → Type 0 where
   called : {f e : List ℕ} {g : Written} → FunctionText f g → Space e → Called (f ++ e) g
@@ -126,20 +130,17 @@ reads-function l = go (reads-kind l)
     closing : (w b t : List ℕ) → (w ++ (b ++ (code ")" ∷ []))) ++ t ≡ w ++ (b ++ (code ")" ∷ t))
     closing w b t = rw (append-assoc w (b ++ (code ")" ∷ [])) t, append-assoc b (code ")" ∷ []) t)
 
-    line : {w b t : List ℕ} {r : Read Written}
-        → Word "linear-gradient(" w → Space t → Means LinearText b r → Means Called (w ++ (b ++ (code ")" ∷ t))) r
-    line {w} {b} {t} q s (means {a = g} h) = means {a = g} (rw (closing w b t) at (called (linear q h) s))
-    line q s no = no
-
-    ring : {w b t : List ℕ} {r : Read Written}
-        → Word "radial-gradient(" w → Space t → Means RadialText b r → Means Called (w ++ (b ++ (code ")" ∷ t))) r
-    ring {w} {b} {t} q s (means {a = g} h) = means {a = g} (rw (closing w b t) at (called (radial q h) s))
-    ring q s no = no
+    shut : {b t : List ℕ} {r : Read Written} (w : List ℕ) (R : List ℕ → Written → Type 0)
+        → ((g : Written) → R b g → FunctionText (w ++ (b ++ (code ")" ∷ []))) g) → Space t → Means R b r → Means Called (w ++ (b ++ (code ")" ∷ t))) r
+    shut {b} {t} w R f s (means {a = g} h) = means {a = g} (rw (closing w b t) at (called (f g h) s))
+    shut w R f s no = no
 
     body : {w k : List ℕ} {kind : Kind} {r : Read (List ℕ)} → KindText w kind → Closed k r
         → Means Called (w ++ k) (r >>= λ body _. ofKind exact kind body)
-    body (linear-name q) (closed {b} s) = line q s (reads-linear b)
-    body (radial-name q) (closed {b} s) = ring q s (reads-circular b)
+    body (linear-name {l} q) (closed {b} s) = shut l (LinearText false) (λ g h. linear q h) s (reads-linear false b)
+    body (radial-name {l} q) (closed {b} s) = shut l (RadialText false) (λ g h. radial q h) s (reads-circular false b)
+    body (repeating-linear-name {l} q) (closed {b} s) = shut l (LinearText true) (λ g h. repeating-linear q h) s (reads-linear true b)
+    body (repeating-radial-name {l} q) (closed {b} s) = shut l (RadialText true) (λ g h. repeating-radial q h) s (reads-circular true b)
     body q open′ = no
 
     go : {r : Read Kind} → Reads KindText l r → Means Called l (r >>= λ kind k. bodyOf k >>= λ body _. ofKind exact kind body)
@@ -173,7 +174,7 @@ body-reads {e} (c ∷ b) h = rw (not-nil b e, ← body-reads b h) (go (is ")" c)
     go true = refl
     go false = refl
 
-linear-reads : {l : List ℕ} {g : Written} → LinearText l g → got g [] ≡ linearOf exact l
+linear-reads : {b : Bool} {l : List ℕ} {g : Written} → LinearText b l g → got g [] ≡ linearOf exact b l
 unfolding linearOf withStops
 linear-reads (plain {l} h) = rw (← stops-not h, ← stops-read h)
 linear-reads (directed {m} d h) = rw (more-items m (direction-item-plain d), ← direction-item d, ← stops-read h)
@@ -184,7 +185,7 @@ linear-reads (directed {m} d h) = rw (more-items m (direction-item-plain d), ←
     direction-item-plain : {l : List ℕ} {d : Direction} → Spaced DirectionText l d → Every (Is notComma) l
     direction-item-plain (spaced a h b) = every-append (space-plain a) (every-append (direction-plain h) (space-plain b))
 
-circular-reads : {l : List ℕ} {g : Written} → RadialText l g → got g [] ≡ circularOf exact l
+circular-reads : {b : Bool} {l : List ℕ} {g : Written} → RadialText b l g → got g [] ≡ circularOf exact b l
 unfolding circularOf withStops
 circular-reads (circular {m} c h) = rw (more-items m (item-plain c), ← item c, ← stops-read h)
   where
@@ -194,20 +195,37 @@ circular-reads (circular {m} c h) = rw (more-items m (item-plain c), ← item c,
     item-plain : {l : List ℕ} {s : Shape} → Spaced ShapeText l s → Every (Is notComma) l
     item-plain (spaced a h b) = every-append (space-plain a) (every-append (shape-plain h) (space-plain b))
 
+kind-reads : {w : List ℕ} {kind : Kind} (k : List ℕ) → KindText w kind → got kind k ≡ kindOf (w ++ k)
+unfolding kindOf begins
+kind-reads k (linear-name w) = or-first _ (bind-got _ (word-reads k refl w) refl)
+kind-reads k (radial-name w) =
+    or-second (bind-refused _ (unlike "linear-gradient(" k refl w)) (or-first _ (bind-got _ (word-reads k refl w) refl))
+kind-reads k (repeating-linear-name w) =
+    or-second (bind-refused _ (unlike "linear-gradient(" k refl w))
+    (or-second (bind-refused _ (unlike "radial-gradient(" k refl w)) (or-first _ (bind-got _ (word-reads k refl w) refl)))
+kind-reads k (repeating-radial-name w) =
+    or-second (bind-refused _ (unlike "linear-gradient(" k refl w))
+    (or-second (bind-refused _ (unlike "radial-gradient(" k refl w))
+    (or-second (bind-refused _ (unlike "repeating-linear-gradient(" k refl w)) (bind-got _ (word-reads k refl w) refl)))
+
+called-reads : {w e : List ℕ} {kind : Kind} {g : Written} (m : List ℕ) → Space e → KindText w kind → got g [] ≡ ofKind exact kind m
+    → got g [] ≡ functionOf exact ((w ++ (m ++ (code ")" ∷ []))) ++ e)
+unfolding functionOf
+called-reads {w} {e} m s q h =
+    rw (append-assoc w (m ++ (code ")" ∷ [])) e, append-assoc m (code ")" ∷ []) e)
+    (bind-got _ (kind-reads (m ++ (code ")" ∷ e)) q) (bind-got _ (body-reads m s) h))
+
 function-reads : {l e : List ℕ} {g : Written} → Space e → FunctionText l g → got g [] ≡ functionOf exact (l ++ e)
-unfolding functionOf kindOf begins
-function-reads {e} s (linear {l} {m} w h) =
-    rw (append-assoc l (m ++ (code ")" ∷ [])) e, append-assoc m (code ")" ∷ []) e)
-    (bind-got _ (or-first _ (bind-got _ (word-reads (m ++ (code ")" ∷ e)) refl w) refl)) (bind-got _ (body-reads m s) (linear-reads h)))
-function-reads {e} s (radial {l} {m} w h) =
-    rw (append-assoc l (m ++ (code ")" ∷ [])) e, append-assoc m (code ")" ∷ []) e)
-    (bind-got _ (or-second (bind-refused _ (unlike "linear-gradient(" (m ++ (code ")" ∷ e)) refl w))
-    (bind-got _ (word-reads (m ++ (code ")" ∷ e)) refl w) refl))
-    (bind-got _ (body-reads m s) (circular-reads h)))
+function-reads s (linear {m} w h) = called-reads m s (linear-name w) (linear-reads h)
+function-reads s (radial {m} w h) = called-reads m s (radial-name w) (circular-reads h)
+function-reads s (repeating-linear {m} w h) = called-reads m s (repeating-linear-name w) (linear-reads h)
+function-reads s (repeating-radial {m} w h) = called-reads m s (repeating-radial-name w) (circular-reads h)
 
 function-first : {l : List ℕ} {g : Written} (k : List ℕ) → FunctionText l g → 57 < peekOf (l ++ k)
 function-first k (linear {l} {m} w h) = rw (append-assoc l (m ++ (code ")" ∷ [])) k) (word-high ((m ++ (code ")" ∷ [])) ++ k) refl w)
 function-first k (radial {l} {m} w h) = rw (append-assoc l (m ++ (code ")" ∷ [])) k) (word-high ((m ++ (code ")" ∷ [])) ++ k) refl w)
+function-first k (repeating-linear {l} {m} w h) = rw (append-assoc l (m ++ (code ")" ∷ [])) k) (word-high ((m ++ (code ")" ∷ [])) ++ k) refl w)
+function-first k (repeating-radial {l} {m} w h) = rw (append-assoc l (m ++ (code ")" ∷ [])) k) (word-high ((m ++ (code ")" ∷ [])) ++ k) refl w)
 
 -- the definition of reading gets what is in the grammar
 pub complete : {l : List ℕ} {g : Written} → InGrammar l g → got g [] ≡ gradientOf exact l

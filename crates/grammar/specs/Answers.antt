@@ -22,7 +22,13 @@ pub record InRange (g : Written) : Type 0 where
 
 -- a gradient of at most 16 stops as a value, "unused places blank"; and no gradient
 abbrev pub valueOf : Written → Gradient
-valueOf g = record { shape = g .shape; count = length (g .stops); stops = g .stops ++ replicate (16 - length (g .stops)) blankStop }
+valueOf g =
+    record {
+      shape = g .shape;
+      repeating = g .repeating;
+      count = length (g .stops);
+      stops = g .stops ++ replicate (16 - length (g .stops)) blankStop;
+    }
 
 abbrev pub refusal : ℕ → Reading
 refusal reply = record { reply = reply; gradient = blankGradient }

@@ -1,10 +1,11 @@
 -- The layout of a gradient that is accepted reads as that gradient.
 -- Assumes nothing.
 use mathlib.Core.Path.{_≡_, refl, sym, ap, _∙_}
-use mathlib.Core.Bool.{true, true≢false, and-eq-true-iff}
+use mathlib.Core.Bool.{Bool, true, false, true≢false, and-eq-true-iff}
 use Prim.Native.Nat.{ℕ, _+_, _-_, _*_, _/_, _%_, _<_}
 use native.Mathlib.Omega.{arith}
 use native.Mathlib.Decide.{decLt}
+use lib.Dec.{eqb}
 use lib.IntN.{ℤ}
 use lib.ListN.{length, getD, drop, length-drop}
 use lib.Seq.{getD-drop}
@@ -97,10 +98,10 @@ coordinate-back : (c : Coordinate) → coordinateIn c ≡ true → coordinateOf 
 coordinate-back (C.Length t) e = ap C.Length (length-back t e)
 coordinate-back (C.Percentage t) e = ap C.Percentage (percentage-back t e)
 
-shape-back : (n : ℕ) (s : Shape) → shapeIn s ≡ true → (w : ℕ → ℕ) → ((k : ℕ) → k < 16 → w k ≡ getD (headWords n s) k 0) → shapeOf w ≡ s
-shape-back n (Sh.Linear d) e w h =
+shape-back : (n : ℕ) (s : Shape) (r : Bool) → shapeIn s ≡ true → (w : ℕ → ℕ) → ((k : ℕ) → k < 16 → w k ≡ getD (headWords n s r) k 0) → shapeOf w ≡ s
+shape-back n (Sh.Linear d) r e w h =
     rw (h 1 (omega arith), h 3 (omega arith), h 4 (omega arith)) (ap Sh.Linear (direction-back d (linear-range d e)))
-shape-back n (Sh.Circle z x y) e w h =
+shape-back n (Sh.Circle z x y) r e w h =
     let k = circle-range z x y e in
     rw (h 1 (omega arith), h 5 (omega arith), h 6 (omega arith), h 7 (omega arith), h 10 (omega arith), h 11 (omega arith), h 13 (omega arith), h 14 (omega arith))
     (same (size-back z (k .0)) (coordinate-back x (k .1)) (coordinate-back y (k .2)))
@@ -108,9 +109,15 @@ shape-back n (Sh.Circle z x y) e w h =
     same : {a b : Size} {p q r s : Coordinate} → a ≡ b → p ≡ q → r ≡ s → Sh.Circle a p r ≡ Sh.Circle b q s
     same e₁ e₂ e₃ = cc
 
-count-back : (n : ℕ) (s : Shape) → getD (headWords n s) 0 0 ≡ n
-count-back n (Sh.Linear d) = refl
-count-back n (Sh.Circle z x y) = refl
+count-back : (n : ℕ) (s : Shape) (r : Bool) → getD (headWords n s r) 0 0 ≡ n
+count-back n (Sh.Linear d) r = refl
+count-back n (Sh.Circle z x y) r = refl
+
+repeating-back : (n : ℕ) (s : Shape) (r : Bool) → eqb (getD (headWords n s r) 2 0) 1 ≡ r
+repeating-back n (Sh.Linear d) true = refl
+repeating-back n (Sh.Linear d) false = refl
+repeating-back n (Sh.Circle z x y) true = refl
+repeating-back n (Sh.Circle z x y) false = refl
 
 -- ---- every place of a gradient that is accepted is in range: a stop, or blank
 blank-in : (s : Stop) → isBlank s ≡ true → stopIn s ≡ true
@@ -138,7 +145,7 @@ place-in g a full i h = go (decLt i (g .count))
 module _ (g : Gradient) (full : length (g .stops) ≡ 16) (bytes : StopBytes (g .stops)) (ok : checkOf g ≡ 0) where
   shape-read : shapeAt (layoutOf g) ≡ g .shape
   unfolding shapeAt
-  shape-read = shape-back (g .count) (g .shape) (accepted g ok .shape) (λ (k : ℕ). wordAt (layoutOf g) (4 * k)) (head-word g full)
+  shape-read = shape-back (g .count) (g .shape) (g .repeating) (accepted g ok .shape) (λ (k : ℕ). wordAt (layoutOf g) (4 * k)) (head-word g full)
 
   stop-read : (i : ℕ) → i < 16 → stopAt (layoutOf g) i ≡ getD (g .stops) i blankStop
   unfolding stopAt
@@ -155,5 +162,6 @@ module _ (g : Gradient) (full : length (g .stops) ≡ 16) (bytes : StopBytes (g 
   pub read-back : gradientAt (layoutOf g) ≡ g
   read-back =
       sym (gradient-read (layoutOf g) (sym shape-read)
-      (sym (head-word g full 0 (omega arith) ∙ count-back (g .count) (g .shape)))
+      (sym (ap (λ (w : ℕ). eqb w 1) (head-word g full 2 (omega arith)) ∙ repeating-back (g .count) (g .shape) (g .repeating)))
+      (sym (head-word g full 0 (omega arith) ∙ count-back (g .count) (g .shape) (g .repeating)))
       (sym (upTo-all 16 (stopAt (layoutOf g)) (g .stops) blankStop full stop-read)))

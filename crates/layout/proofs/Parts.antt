@@ -1,8 +1,10 @@
 -- What is read part by part is the whole.
 -- Assumes nothing.
 use mathlib.Core.Path.{_≡_, sym, _∙_}
+use mathlib.Core.Bool.{Bool}
 use mathlib.Core.List.{List}
 use Prim.Native.Nat.{ℕ}
+use lib.Dec.{eqb}
 use borrow.Author.Tests.{eq-eqb, ne-eqb}
 use Rattle.words.specs.Word.{wordAt, upTo}
 use Rattle.gradient.specs.declared.Stop.{Stop}
@@ -29,8 +31,9 @@ module _ (s : List ℕ) {t : ℕ} (e : t ≡ wordAt s 4) where
   unfolding shapeAt
   linear-read k e₃ e₄ f = rw (ne-eqb (wordAt s 4) 1 (λ j. k (e ∙ j)), f, e₃, e₄)
 
--- a gradient, of its shape, its count and its stops
-pub gradient-read : (s : List ℕ) {a : Shape} {n : ℕ} {l : List Stop} → a ≡ shapeAt s → n ≡ wordAt s 0 → l ≡ upTo 16 (stopAt s)
-    → _≡_ {A = Gradient} (record { shape = a; count = n; stops = l }) (gradientAt s)
+-- a gradient, of its shape, its flag, its count and its stops
+pub gradient-read : (s : List ℕ) {a : Shape} {b : Bool} {n : ℕ} {l : List Stop}
+    → a ≡ shapeAt s → b ≡ eqb (wordAt s 8) 1 → n ≡ wordAt s 0 → l ≡ upTo 16 (stopAt s)
+    → _≡_ {A = Gradient} (record { shape = a; repeating = b; count = n; stops = l }) (gradientAt s)
 unfolding gradientAt
-gradient-read s e₁ e₂ e₃ = cc
+gradient-read s e₁ e₂ e₃ e₄ = cc

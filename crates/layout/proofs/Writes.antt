@@ -31,11 +31,11 @@ stop-written s d b₁ b₂ b₃ b₄ at w u n h ew eu en p₁ p₂ p₃ p₄ =
     q₄ ∙ ap (λ (ws : List ℕ). patched d at (each wordBytes ws)) e
 
 -- the head, then the stops
-pub written : (g : Gradient) (ws d b₁ b₂ : List ℕ) → length (g .stops) ≡ 16 → 320 ≤ length d → ws ≡ headWords (g .count) (g .shape)
+pub written : (g : Gradient) (ws d b₁ b₂ : List ℕ) → length (g .stops) ≡ 16 → 320 ≤ length d → ws ≡ headWords (g .count) (g .shape) (g .repeating)
     → b₁ ≡ patched d 0 (each wordBytes ws) → b₂ ≡ patched b₁ 64 (each wordBytes (each stopWords (g .stops))) → b₂ ≡ patched d 0 (layoutOf g)
 unfolding layoutOf wordsOf
 written g ws d b₁ b₂ full h e p₁ p₂ =
-    let hs : List ℕ = headWords (g .count) (g .shape) in
+    let hs : List ℕ = headWords (g .count) (g .shape) (g .repeating) in
     let ss : List ℕ = each stopWords (g .stops) in
     let l : length (each wordBytes hs) ≡ 64 = rw (each-length wordBytes 4 (λ w. refl), head-length) in
     let k : length (each wordBytes ss) ≡ 256 = rw (each-length wordBytes 4 (λ w. refl), each-length stopWords 4 (λ s. refl), full) in

@@ -79,8 +79,9 @@ shapeAt s = shapeOf (λ (k : ℕ). wordAt s (4 * k))
 unfoldable pub stopAt : List ℕ → ℕ → Stop
 stopAt s i = stopOf (wordAt s (64 + 16 * i)) (wordAt s (68 + 16 * i)) (wordAt s (72 + 16 * i))
 
+-- it repeats where word 2 is 1; another word reads as one that does not
 unfoldable pub gradientAt : List ℕ → Gradient
-gradientAt s = record { shape = shapeAt s; count = wordAt s 0; stops = upTo 16 (stopAt s) }
+gradientAt s = record { shape = shapeAt s; repeating = eqb (wordAt s 8) 1; count = wordAt s 0; stops = upTo 16 (stopAt s) }
 
 -- ---- the reply: 4 where it is not a layout, then the gradient's own
 unfoldable pub takenReply : List ℕ → ℕ

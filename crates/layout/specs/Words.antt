@@ -1,5 +1,6 @@
 -- The layout of a gradient: 80 words of 32 bits, as docs/LAYOUT.md has them, each as four bytes, the lowest first.
 -- Assumes nothing.
+use mathlib.Core.Bool.{Bool, true, false}
 use mathlib.Core.List.{List, [], _∷_, _++_}
 use Prim.Native.Nat.{ℕ, _+_, _*_}
 use lib.IntN.{ℤ}
@@ -48,6 +49,11 @@ positionWord (P.Percentage t) = signedWord t
 
 abbrev pub stopWords : Stop → List ℕ
 stopWords s = colorWord (s .color) ∷ positionUnit (s .position) ∷ positionWord (s .position) ∷ 0 ∷ []
+
+-- ---- whether it repeats
+abbrev pub repeatingWord : Bool → ℕ
+repeatingWord false = 0
+repeatingWord true = 1
 
 -- ---- the direction of a line
 abbrev pub sideCode : Side → ℕ
@@ -99,15 +105,15 @@ abbrev pub coordinateWord : Coordinate → ℕ
 coordinateWord (C.Length t) = signedWord t
 coordinateWord (C.Percentage t) = signedWord t
 
--- ---- the head: count, shape, repeating (reserved), direction, angle, extent, size, second size (reserved), center x and y, each with its unit and a
+-- ---- the head: count, shape, whether it repeats, direction, angle, extent, size, second size (reserved), center x and y, each with its unit and a
 -- reserved word
-abbrev pub headWords : ℕ → Shape → List ℕ
-headWords n (Sh.Linear d) = n ∷ 0 ∷ 0 ∷ directionCode d ∷ angleWord d ∷ 0 ∷ 0 ∷ 0 ∷ 0 ∷ 0 ∷ 0 ∷ 0 ∷ 0 ∷ 0 ∷ 0 ∷ 0 ∷ []
-headWords n (Sh.Circle s x y) =
-    n ∷ 1 ∷ 0 ∷ 0 ∷ 0 ∷ sizeExtent s ∷ sizeUnit s ∷ sizeWord s ∷ 0 ∷ 0 ∷ coordinateUnit x ∷ coordinateWord x ∷ 0 ∷ coordinateUnit y ∷ coordinateWord y ∷ 0 ∷ []
+abbrev pub headWords : ℕ → Shape → Bool → List ℕ
+headWords n (Sh.Linear d) r = n ∷ 0 ∷ repeatingWord r ∷ directionCode d ∷ angleWord d ∷ 0 ∷ 0 ∷ 0 ∷ 0 ∷ 0 ∷ 0 ∷ 0 ∷ 0 ∷ 0 ∷ 0 ∷ 0 ∷ []
+headWords n (Sh.Circle s x y) r =
+    n ∷ 1 ∷ repeatingWord r ∷ 0 ∷ 0 ∷ sizeExtent s ∷ sizeUnit s ∷ sizeWord s ∷ 0 ∷ 0 ∷ coordinateUnit x ∷ coordinateWord x ∷ 0 ∷ coordinateUnit y ∷ coordinateWord y ∷ 0 ∷ []
 
 unfoldable pub wordsOf : Gradient → List ℕ
-wordsOf g = headWords (g .count) (g .shape) ++ each stopWords (g .stops)
+wordsOf g = headWords (g .count) (g .shape) (g .repeating) ++ each stopWords (g .stops)
 
 unfoldable pub layoutOf : Gradient → List ℕ
 layoutOf g = each wordBytes (wordsOf g)

@@ -1,6 +1,7 @@
 -- Layouts worked out by hand from docs/LAYOUT.md, and replies, by computation.
 -- Assumes nothing.
 use mathlib.Core.Path.{_≡_, refl}
+use mathlib.Core.Bool.{Bool, true, false}
 use mathlib.Core.List.{List, [], _∷_, _++_}
 use Prim.Native.Nat.{ℕ}
 use lib.IntN.{pos, negsuc}
@@ -26,10 +27,11 @@ abbrev zeros : List ℕ
 zeros = 0 ∷ 0 ∷ 0 ∷ 0 ∷ []
 
 -- red at a position, then half-transparent blue at −1.5 px
-abbrev two : Shape → Position → Gradient
-two s p =
+abbrev two : Shape → Bool → Position → Gradient
+two s r p =
     record {
       shape = s;
+      repeating = r;
       count = 2;
       stops =
           record { color = record { red = 255; green = 0; blue = 0; alpha = 255 }; position = p }
@@ -43,7 +45,7 @@ second = (0 ∷ 0 ∷ 255 ∷ 128 ∷ []) ++ (1 ∷ 0 ∷ 0 ∷ 0 ∷ []) ++ (36
 
 -- linear-gradient(-45deg, #f00, #0000ff80 -1.5px)
 abbrev linear : Gradient
-linear = two (Sh.Linear (D.Angle (negsuc 44999))) P.Auto
+linear = two (Sh.Linear (D.Angle (negsuc 44999))) false P.Auto
 
 linear-bytes :
     take 96 (layoutOf linear)
@@ -53,9 +55,19 @@ linear-bytes :
 unfolding layoutOf wordsOf
 linear-bytes = refl
 
--- radial-gradient(circle closest-corner at 30% 10px, #f00 50%, #0000ff80 -1.5px)
+-- repeating-linear-gradient(-45deg, #f00, #0000ff80 -1.5px)
+repeating-bytes :
+    take 20 (layoutOf (two (Sh.Linear (D.Angle (negsuc 44999))) true P.Auto))
+    ≡ (2 ∷ 0 ∷ 0 ∷ 0 ∷ []) ++ zeros ++ (1 ∷ 0 ∷ 0 ∷ 0 ∷ []) ++ (8 ∷ 0 ∷ 0 ∷ 0 ∷ []) ++ (56 ∷ 80 ∷ 255 ∷ 255 ∷ [])
+unfolding layoutOf wordsOf
+repeating-bytes = refl
+
+-- radial-gradient(circle closest-corner at 30% 10px, #f00 50%, #0000ff80 -1.5px), and the repeating one
+abbrev circling : Bool → Gradient
+circling r = two (Sh.Circle (Z.Extent E.ClosestCorner) (C.Percentage (pos 30000)) (C.Length (pos 10000))) r (P.Percentage (pos 50000))
+
 abbrev circle : Gradient
-circle = two (Sh.Circle (Z.Extent E.ClosestCorner) (C.Percentage (pos 30000)) (C.Length (pos 10000))) (P.Percentage (pos 50000))
+circle = circling false
 
 circle-bytes :
     take 96 (layoutOf circle)
@@ -67,18 +79,26 @@ circle-bytes :
 unfolding layoutOf wordsOf
 circle-bytes = refl
 
--- its layout is taken; not with a reserved byte set, a byte more, or a unit that is none
+-- with the byte 1 in word 2 it is the layout of the repeating one
+repeating-byte : set (layoutOf circle) 8 1 ≡ layoutOf (circling true)
+unfolding layoutOf wordsOf
+repeating-byte = refl
+
+-- both are taken; not with 2 in word 2, with another byte of it set, with a reserved byte set, a byte more, or a unit that is none
 replies :
     (takenReply (layoutOf circle) ≡ 0)
-    × (takenReply (set (layoutOf circle) 8 1) ≡ 4)
+    × (takenReply (set (layoutOf circle) 8 1) ≡ 0)
+    × (takenReply (set (layoutOf circle) 8 2) ≡ 4)
+    × (takenReply (set (set (layoutOf circle) 8 1) 9 1) ≡ 4)
+    × (takenReply (set (layoutOf circle) 32 1) ≡ 4)
     × (takenReply (layoutOf circle ++ (0 ∷ [])) ≡ 4)
     × (takenReply (set (layoutOf circle) 68 3) ≡ 4)
 unfolding takenReply gradientAt shapeAt stopAt layoutOf wordsOf equal checkOf blankPast stopsIn shapeIn isBlank
-replies = (refl, refl, refl, refl)
+replies = (refl, refl, refl, refl, refl, refl, refl)
 
 -- a center far out of its range, and with a reserved byte set beside it
 order :
     (takenReply (set (layoutOf circle) 59 64) ≡ 5)
-    × (takenReply (set (set (layoutOf circle) 59 64) 8 1) ≡ 4)
+    × (takenReply (set (set (layoutOf circle) 59 64) 32 1) ≡ 4)
 unfolding takenReply gradientAt shapeAt stopAt layoutOf wordsOf equal checkOf blankPast stopsIn shapeIn isBlank
 order = (refl, refl)

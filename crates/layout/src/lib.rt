@@ -22,7 +22,7 @@ ghost use Prim.Native.Nat.{_+_, _*_, _≤_, _<_};
 ghost use lib.ListN.{length};
 ghost use Rattle.picture.specs.Picture.{patched, padded};
 ghost use Rattle.words.specs.Word.{wordBytes, each};
-ghost use Rattle.layout.specs.Words.{colorWord, positionUnit, positionWord, stopWords, sideCode, cornerCode, directionCode, angleWord, extentCode, sizeExtent, sizeUnit, sizeWord, coordinateUnit, coordinateWord, headWords, layoutOf};
+ghost use Rattle.layout.specs.Words.{colorWord, positionUnit, positionWord, stopWords, sideCode, cornerCode, directionCode, angleWord, extentCode, sizeExtent, sizeUnit, sizeWord, coordinateUnit, coordinateWord, repeatingWord, headWords, layoutOf};
 ghost use Rattle.layout.specs.Taken.{colorOf, positionAt, stopOf, directionOf, extentOf, sizeOf, coordinateOf, shapeAt, stopAt, gradientAt, takenOf};
 
 // The bytes of a gradient.
@@ -182,12 +182,19 @@ fn coordinate_word(c: Coordinate) -> u32
     }
 }
 
+fn repeating_word(repeating: bool) -> u32
+    ensures { λ r. ⌜ r ≡ repeatingWord repeating ⌝ }
+{
+    if repeating { 1 } else { 0 }
+}
+
 // The 16 words of the head of n stops.
-fn head_words(n: u32, s: Shape) -> [u32; 16]
-    ensures { λ r. ⌜ r ≡ headWords n s ⌝ }
+fn head_words(n: u32, s: Shape, repeating: bool) -> [u32; 16]
+    ensures { λ r. ⌜ r ≡ headWords n s repeating ⌝ }
 {
     let mut w = [0u32; 16];
     w[0] = n;
+    w[2] = repeating_word(repeating);
     match s {
         Shape::Linear(d) => {
             w[3] = direction_code(d);
@@ -241,7 +248,7 @@ pub fn write(g: Gradient, out: &mut [u8])
 {
     let s = g.shape;
     let stops = g.stops;
-    put_head(out, head_words(g.count, s));
+    put_head(out, head_words(g.count, s, g.repeating));
     put_stops(out, stops);
     picture::clear_from(out, SIZE);
 }
@@ -357,6 +364,7 @@ fn gradient_at(s: &[u8]) -> Gradient
     }
     Gradient {
         shape: shape_at(s),
+        repeating: word_at(s, 8) == 1,
         count: word_at(s, 0),
         stops: stops,
     }

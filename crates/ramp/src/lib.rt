@@ -1,16 +1,23 @@
-// A ramp: the color of every location, in one lent slice of words. Its head holds the stops: their number, the first location of the table, room for 16
-// positions and for 64 values. The rest is the table, one packed color for each unit; it may be empty. Only this crate knows the order of the words.
+// A ramp: the color of every location, in one lent slice of words. Its head holds the stops: their number, the first location of the table, whether they
+// are repeated, room for 16 positions and for 64 values. The rest is the table, one packed color for each unit; it may be empty. Only this crate knows the order of the words.
 use stops::PlacedStops;
 use table::Stretch;
 ghost use mathlib.Core.Path.{_≡_};
-ghost use Prim.Native.Nat.{_+_, _-_, _*_, _≤_, _<_};
+ghost use mathlib.Core.Bool.{true};
+ghost use mathlib.Core.List.{List, map};
+ghost use Prim.Native.Nat.{ℕ, _+_, _-_, _*_, _≤_, _<_};
 ghost use lib.ListN.{length, getD, take, set};
 ghost use Rattle.numbers.specs.Biased.{bias};
+ghost use Rattle.stops.specs.Bytes.{AllBytes};
 ghost use Rattle.stops.specs.Check.{placedOf};
+ghost use Rattle.stops.specs.declared.PlacedStop.{PlacedStop};
+ghost use Rattle.color.specs.Stop.{stopOf};
+ghost use Rattle.color.specs.Paint.{paintOf};
+ghost use Rattle.color.specs.Lent.{Lent};
 ghost use Rattle.color.specs.Numbers.{Lendable};
-ghost use Rattle.table.specs.Table.{locationLimit};
+ghost use Rattle.table.specs.Table.{entryOf, Stretched};
 ghost use Rattle.walk.specs.Walk.{mostSteps};
-ghost use Rattle.ramp.specs.Ramp.{mostStops, headSize, positionsIn, valuesIn, tableIn, baseIn, colorIn, Spread, Stops, Ramp, Made, Like, Held};
+ghost use Rattle.ramp.specs.Ramp.{mostStops, headSize, locationLimit, positionsIn, valuesIn, repeatsIn, tableIn, baseIn, colorIn, Spread, Stops, Ramp, Holds, Made, Like, Held};
 ghost use Rattle.picture.specs.Picture.{patched};
 
 // The word that is the number of stops.
@@ -19,11 +26,17 @@ const COUNT: usize = 0;
 // The word that is the table's first location.
 const BASE: usize = 1;
 
+// The word that is 1 where the stops are repeated.
+const REPEATS: usize = 2;
+
 // The first word of the positions.
 const POSITIONS: usize = 4;
 
 // The first word of the values.
 const VALUES: usize = 20;
+
+// From this location on there are no stretches.
+const FAR: u64 = 16777216;
 
 // The words of the head: the table comes after them.
 pub const HEAD: usize = 84;
@@ -53,6 +66,21 @@ fn values(ramp: &[u32]) -> &[u32]
     &ramp[VALUES..e]
 }
 
+fn is_repeated(ramp: &[u32]) -> bool
+    requires { ⌜ Stops (now ramp) ⌝ }
+    ensures { λ r. ⌜ r ≡ repeatsIn (now (ramp .entry)) ⌝ }
+{
+    ramp[REPEATS] == 1
+}
+
+// Whether all locations have one color: there is one stop.
+pub fn is_one_color(ramp: &[u32]) -> bool
+    requires { ⌜ Stops (now ramp) ⌝ }
+    ensures { λ r. ⌜ (r ≡ true → (s t : ℕ) → colorIn (now (ramp .entry)) s ≡ colorIn (now (ramp .entry)) t) ⌝ }
+{
+    count(ramp) == 1
+}
+
 // The table.
 pub fn table_of(ramp: &[u32]) -> &[u32]
     requires { ⌜ Stops (now ramp) ⌝ }
@@ -76,7 +104,10 @@ pub fn color_by_stops(ramp: &[u32], s: u64) -> u32
     requires { ⌜ Stops (now ramp) × (s < locationLimit) ⌝ }
     ensures { λ r. ⌜ r ≡ colorIn (now (ramp .entry)) s ⌝ }
 {
-    table::color_of(positions(ramp), values(ramp), s)
+    if is_repeated(ramp) {
+        return repeats::color_of(positions(ramp), values(ramp), s);
+    }
+    table::color_of(positions(ramp), values(ramp), numbers::WIDE_BIAS + s)
 }
 
 // From the table, or from the stops where the table does not reach.
@@ -92,12 +123,27 @@ pub fn color(ramp: &[u32], s: u64) -> u32
     color_by_stops(ramp, s)
 }
 
+// The stretch of locations that s is in, where the stops are not repeated, or one of no locations.
+fn stretch_once(positions: &[u32], values: &[u32], s: u64) -> Stretch
+    requires { ⌜ Lent (now positions) (now values) ⌝ }
+    ensures { λ t. ⌜ Stretched (λ (l : ℕ). entryOf (now (positions .entry)) (now (values .entry)) (bias + l)) t ⌝ }
+{
+    if FAR <= s {
+        return table::no_stretch();
+    }
+    let t = table::stretch_at(positions, values, numbers::BIAS + (s as u32), numbers::BIAS);
+    table::moved(t, numbers::WIDE_BIAS, 0)
+}
+
 // The stretch of locations that s is in, or one of no locations.
 pub fn stretch_at(ramp: &[u32], s: u64) -> Stretch
     requires { ⌜ Stops (now ramp) ⌝ }
     ensures { λ t. ⌜ Held (now (ramp .entry)) t ⌝ }
 {
-    table::stretch_at(positions(ramp), values(ramp), s)
+    if is_repeated(ramp) {
+        return repeats::stretch_at(positions(ramp), values(ramp), s);
+    }
+    stretch_once(positions(ramp), values(ramp), s)
 }
 
 // ---- making a ramp
@@ -107,7 +153,17 @@ pub fn fill_spaced(t: &mut [u32], ramp: &[u32], base: u32, stride: u32)
     requires { ⌜ Stops (now ramp) × (0 < stride) × (base + length (now t) * stride ≤ bias) × (length (now t) < mostSteps) ⌝ }
     ensures { λ _. ⌜ Spread (colorIn (now (ramp .entry))) base stride (now (t .exit)) × (length (now (t .exit)) ≡ length (now (t .entry))) ⌝ }
 {
-    table::fill_spaced(t, positions(ramp), values(ramp), base, stride);
+    if is_repeated(ramp) {
+        repeats::fill_spaced(t, positions(ramp), values(ramp), base, stride);
+    } else {
+        table::fill_spaced(
+            t,
+            positions(ramp),
+            values(ramp),
+            numbers::BIAS + base,
+            stride,
+        );
+    }
 }
 
 // Copies `words` into the ramp from `at` on.
@@ -122,14 +178,41 @@ fn store(ramp: &mut [u32], at: usize, words: &[u32])
     }
 }
 
-// Writes placed stops into the head. The table stays as it is.
-pub fn set_stops(ramp: &mut [u32], p: PlacedStops)
+// Writes placed stops into the head, not repeated.
+fn store_stops(ramp: &mut [u32], p: PlacedStops)
     requires { ⌜ Lendable p × (0 < p .count) × (headSize ≤ length (now ramp)) ⌝ }
-    ensures { λ _. ⌜ Made (placedOf p) (now (ramp .exit)) ⌝ }
+    ensures { λ _. ⌜ Holds (placedOf p) (now (ramp .exit)) × (getD (now (ramp .exit)) 0 0 ≡ p .count) ⌝ }
 {
     ramp[COUNT] = p.count;
+    ramp[REPEATS] = 0;
     color::store_positions(ramp, POSITIONS, p);
     color::store_values(ramp, VALUES, p);
+}
+
+// Lets the stops be repeated; where their period is 0, there is one stop with their average color in place of them.
+fn repeat(ramp: &mut [u32])
+    requires { ⌜ (1 < getD (now ramp) 0 0) × Stops (now ramp) ⌝ }
+    ensures { λ _. ⌜ ((l : List PlacedStop) → Holds l (now (ramp .entry)) → Made (paintOf true (map stopOf l)) (now (ramp .exit))) ⌝ }
+{
+    let n = count(ramp);
+    if ramp[POSITIONS] < ramp[POSITIONS + (n - 1)] {
+        ramp[REPEATS] = 1;
+        return;
+    }
+    let c = color::average_color(values(ramp), n);
+    ramp[COUNT] = 1;
+    color::store_bytes(ramp, VALUES, c);
+}
+
+// Writes placed stops into the head, as a picture that repeats them or does not is colored. The table stays as it is.
+pub fn set_stops(ramp: &mut [u32], p: PlacedStops, repeating: bool)
+    requires { ⌜ Lendable p × (1 < p .count) × (headSize ≤ length (now ramp)) ⌝ }
+    ensures { λ _. ⌜ Made (paintOf repeating (map stopOf (placedOf p))) (now (ramp .exit)) × AllBytes (placedOf p) ⌝ }
+{
+    store_stops(ramp, p);
+    if repeating {
+        repeat(ramp);
+    }
 }
 
 // Copies the head of another ramp, with `base` as the table's first location.

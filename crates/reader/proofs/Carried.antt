@@ -1,5 +1,6 @@
 -- What holds of every list of stops that is read holds of the stops of a gradient as it is written.
 -- Assumes nothing.
+use mathlib.Core.Bool.{Bool}
 use mathlib.Core.List.{List, []}
 use Prim.Native.Nat.{ℕ}
 use lib.IntN.{ℤ}
@@ -27,23 +28,23 @@ module _ (P : List Stop → Type 0) (keep : ℤ → ℤ) (read : (items : List (
   after (got a l) f h = h a l
   after refused f h = tt
 
-  with-stops : (shape : Shape) (items : List (List ℕ)) → Holds (withStops keep shape items)
+  with-stops : (shape : Shape) (r : Bool) (items : List (List ℕ)) → Holds (withStops keep shape r items)
   unfolding withStops
-  with-stops shape items = go (twoStopsOf keep items) (read items)
+  with-stops shape r items = go (twoStopsOf keep items) (read items)
     where
-      go : (r : Read (List Stop)) → Gets P r → Holds (r >>= λ ss _. got (written shape ss) [])
+      go : (q : Read (List Stop)) → Gets P q → Holds (q >>= λ ss _. got (written shape r ss) [])
       go (got ss l) h = h
       go refused h = tt
 
-  by-direction : (r : Read Direction) (items : List (List ℕ)) → Holds (byDirection keep r items)
-  by-direction (got d l) items = with-stops (Sh.Linear d) (others items)
-  by-direction refused items = with-stops (Sh.Linear (D.Side S.Bottom)) items
+  by-direction : (d : Read Direction) (r : Bool) (items : List (List ℕ)) → Holds (byDirection keep d r items)
+  by-direction (got d l) r items = with-stops (Sh.Linear d) r (others items)
+  by-direction refused r items = with-stops (Sh.Linear (D.Side S.Bottom)) r items
 
   of-kind : (kind : Kind) (body : List ℕ) → Holds (ofKind keep kind body)
   unfolding linearOf circularOf
-  of-kind K.Linear body = by-direction (wholeOf (directionOf keep) (first (itemsOf body))) (itemsOf body)
-  of-kind K.Radial body =
-      after (wholeOf (radialOf keep) (first (itemsOf body))) (λ shape _. withStops keep shape (others (itemsOf body))) (λ shape l. with-stops shape (others (itemsOf body)))
+  of-kind (K.Linear r) body = by-direction (wholeOf (directionOf keep) (first (itemsOf body))) r (itemsOf body)
+  of-kind (K.Radial r) body =
+      after (wholeOf (radialOf keep) (first (itemsOf body))) (λ shape _. withStops keep shape r (others (itemsOf body))) (λ shape l. with-stops shape r (others (itemsOf body)))
 
   pub carried : (l : List ℕ) → Holds (functionOf keep l)
   unfolding functionOf

@@ -36,35 +36,36 @@ use Rattle.reader.specs.Reading.{writtenReply, grammarReply, gradientIn,
 use Rattle.reader.specs.View.{draftOf, draftReply, concluded}
 
 abbrev pub cutWritten : Written → Written
-cutWritten w = written (cutShape (w .shape)) (map cutStop (w .stops))
+cutWritten w = written (cutShape (w .shape)) (w .repeating) (map cutStop (w .stops))
 
 -- ---- the same pieces are read, with their numbers cut off
-stops-cut : (shape : Shape) (items : List (List ℕ)) → withStops cut (cutShape shape) items ≡ mapRead cutWritten (withStops exact shape items)
-unfolding withStops
-stops-cut shape items =
-    ap (λ (r : Read (List Stop)). r >>= λ ss _. got (written (cutShape shape) ss) []) (two-stops-cut items)
-    ∙ sym (map-bind cutWritten (map cutStop) (λ ss _. got (written shape ss) []) (λ ss _. got (written (cutShape shape) ss) []) (λ ss l. refl) (twoStopsOf exact items))
+module _ (r : Bool) where
+  stops-cut : (shape : Shape) (items : List (List ℕ)) → withStops cut (cutShape shape) r items ≡ mapRead cutWritten (withStops exact shape r items)
+  unfolding withStops
+  stops-cut shape items =
+      ap (λ (q : Read (List Stop)). q >>= λ ss _. got (written (cutShape shape) r ss) []) (two-stops-cut items)
+      ∙ sym (map-bind cutWritten (map cutStop) (λ ss _. got (written shape r ss) []) (λ ss _. got (written (cutShape shape) r ss) []) (λ ss l. refl) (twoStopsOf exact items))
 
-direction-by : (r : Read Direction) (items : List (List ℕ)) → byDirection cut (mapRead cutDirection r) items ≡ mapRead cutWritten (byDirection exact r items)
-direction-by (got d k) items = stops-cut (Sh.Linear d) (others items)
-direction-by refused items = stops-cut (Sh.Linear (D.Side S.Bottom)) items
+  direction-by : (d : Read Direction) (items : List (List ℕ)) → byDirection cut (mapRead cutDirection d) r items ≡ mapRead cutWritten (byDirection exact d r items)
+  direction-by (got d k) items = stops-cut (Sh.Linear d) (others items)
+  direction-by refused items = stops-cut (Sh.Linear (D.Side S.Bottom)) items
 
-linear-cut : (l : List ℕ) → linearOf cut l ≡ mapRead cutWritten (linearOf exact l)
-unfolding linearOf
-linear-cut l =
-    ap (λ (r : Read Direction). byDirection cut r (itemsOf l)) (whole-map cutDirection (directionOf exact) (directionOf cut) direction-cut (first (itemsOf l)))
-    ∙ direction-by (wholeOf (directionOf exact) (first (itemsOf l))) (itemsOf l)
+  linear-cut : (l : List ℕ) → linearOf cut r l ≡ mapRead cutWritten (linearOf exact r l)
+  unfolding linearOf
+  linear-cut l =
+      ap (λ (d : Read Direction). byDirection cut d r (itemsOf l)) (whole-map cutDirection (directionOf exact) (directionOf cut) direction-cut (first (itemsOf l)))
+      ∙ direction-by (wholeOf (directionOf exact) (first (itemsOf l))) (itemsOf l)
 
-circular-cut : (l : List ℕ) → circularOf cut l ≡ mapRead cutWritten (circularOf exact l)
-unfolding circularOf
-circular-cut l =
-    ap (λ (r : Read Shape). r >>= λ shape _. withStops cut shape (others (itemsOf l))) (whole-map cutShape (radialOf exact) (radialOf cut) radial-cut (first (itemsOf l)))
-    ∙ sym (map-bind cutWritten cutShape (λ shape _. withStops exact shape (others (itemsOf l))) (λ shape _. withStops cut shape (others (itemsOf l)))
-    (λ shape _. sym (stops-cut shape (others (itemsOf l)))) (wholeOf (radialOf exact) (first (itemsOf l))))
+  circular-cut : (l : List ℕ) → circularOf cut r l ≡ mapRead cutWritten (circularOf exact r l)
+  unfolding circularOf
+  circular-cut l =
+      ap (λ (q : Read Shape). q >>= λ shape _. withStops cut shape r (others (itemsOf l))) (whole-map cutShape (radialOf exact) (radialOf cut) radial-cut (first (itemsOf l)))
+      ∙ sym (map-bind cutWritten cutShape (λ shape _. withStops exact shape r (others (itemsOf l))) (λ shape _. withStops cut shape r (others (itemsOf l)))
+      (λ shape _. sym (stops-cut shape (others (itemsOf l)))) (wholeOf (radialOf exact) (first (itemsOf l))))
 
 kind-cut : (kind : Kind) (body : List ℕ) → ofKind cut kind body ≡ mapRead cutWritten (ofKind exact kind body)
-kind-cut K.Linear body = linear-cut body
-kind-cut K.Radial body = circular-cut body
+kind-cut (K.Linear r) body = linear-cut r body
+kind-cut (K.Radial r) body = circular-cut r body
 
 function-cut : (l : List ℕ) → functionOf cut l ≡ mapRead cutWritten (functionOf exact l)
 unfolding functionOf

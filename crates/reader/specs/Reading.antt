@@ -35,7 +35,7 @@ unfoldable pub readReply : List ℕ → ℕ
 readReply text = given (ltb 1024 (length text)) longText orElse grammarReply (gradientOf exact text)
 
 abbrev pub valueOf : Written → Gradient
-valueOf w = record { shape = w .shape; count = length (w .stops); stops = places (w .stops) }
+valueOf w = record { shape = w .shape; repeating = w .repeating; count = length (w .stops); stops = places (w .stops) }
 
 abbrev pub gradientIn : Read Written → Gradient
 gradientIn (got w _) = valueOf w

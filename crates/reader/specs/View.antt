@@ -2,7 +2,7 @@
 -- Assumes nothing.
 use mathlib.Core.Path.{_≡_}
 use Prim.Native.Nat.{ℕ, _-_, _≤_}
-use mathlib.Core.Bool.{true, false, cond, not}
+use mathlib.Core.Bool.{Bool, true, false, cond, not}
 use mathlib.Core.List.{List, []}
 use lib.Dec.{ltb}
 use lib.ListN.{length, take, drop}
@@ -46,15 +46,15 @@ pub record CloseAt (s : List ℕ) (from : ℕ) (r : CloseRead) : Type 0 where
 
 -- what the code keeps of a gradient as it is written
 abbrev pub noDraft : Draft
-noDraft = record { found = false; shape = Sh.Linear (D.Side S.Top); list = blankList }
+noDraft = record { found = false; shape = Sh.Linear (D.Side S.Top); repeating = false; list = blankList }
 
 abbrev pub draftOf : Read Written → Draft
-draftOf (got w l) = record { found = true; shape = w .shape; list = listOf (w .stops) }
+draftOf (got w l) = record { found = true; shape = w .shape; repeating = w .repeating; list = listOf (w .stops) }
 draftOf refused = noDraft
 
--- a shape beside the stops after it
-abbrev pub drafted : Shape → Listing → Draft
-drafted shape l = cond (l .found) (record { found = true; shape = shape; list = l .list }) noDraft
+-- a shape, whether it repeats, and the stops after it
+abbrev pub drafted : Shape → Bool → Listing → Draft
+drafted shape r l = cond (l .found) (record { found = true; shape = shape; repeating = r; list = l .list }) noDraft
 
 -- the reply to a draft, and the value that it holds
 unfoldable pub draftReply : Draft → ℕ
@@ -65,7 +65,7 @@ draftReply d =
     orElse given (ltb 16 (d .list .count)) tooManyStops
 
 abbrev pub draftValue : Draft → Gradient
-draftValue d = record { shape = d .shape; count = d .list .count; stops = d .list .stops }
+draftValue d = record { shape = d .shape; repeating = d .repeating; count = d .list .count; stops = d .list .stops }
 
 abbrev pub concluded : Draft → Reading
 concluded d = answered (draftReply d) (draftValue d)

@@ -37,12 +37,14 @@ pub struct Reading {
 pub struct Draft {
     pub found: bool,
     pub shape: Shape,
+    pub repeating: bool,
     pub list: StopList,
 }
 
+// Which function is called, and whether it is the repeating one.
 pub enum Kind {
-    Linear,
-    Radial,
+    Linear(bool),
+    Radial(bool),
 }
 
 pub enum KindRead {
@@ -95,12 +97,13 @@ fn no_draft() -> Draft
     Draft {
         found: false,
         shape: Shape::Linear(Direction::Side(Side::Top)),
+        repeating: false,
         list: list,
     }
 }
 
-fn with_stops(shape: Shape, l: Listing) -> Draft
-    ensures { λ r. ⌜ r ≡ drafted shape l ⌝ }
+fn with_stops(shape: Shape, repeating: bool, l: Listing) -> Draft
+    ensures { λ r. ⌜ r ≡ drafted shape repeating l ⌝ }
 {
     if !l.found {
         return no_draft();
@@ -109,25 +112,26 @@ fn with_stops(shape: Shape, l: Listing) -> Draft
     Draft {
         found: true,
         shape: shape,
+        repeating: repeating,
         list: list,
     }
 }
 
-fn read_linear(s: &[u8]) -> Draft
-    ensures { λ r. ⌜ r ≡ draftOf (linearOf cut (now (s .entry))) ⌝ }
+fn read_linear(repeating: bool, s: &[u8]) -> Draft
+    ensures { λ r. ⌜ r ≡ draftOf (linearOf cut repeating (now (s .entry))) ⌝ }
 {
     let from = 0;
     let end = stoplist::find_comma(s, from);
     if let DirectionRead::Got(d, _) = whole_direction(&s[from..end]) {
         let l = stoplist::read_stops(s, end + 1);
-        return with_stops(Shape::Linear(d), l);
+        return with_stops(Shape::Linear(d), repeating, l);
     }
     let l = stoplist::read_stops(s, from);
-    with_stops(Shape::Linear(Direction::Side(Side::Bottom)), l)
+    with_stops(Shape::Linear(Direction::Side(Side::Bottom)), repeating, l)
 }
 
-fn read_circular(s: &[u8]) -> Draft
-    ensures { λ r. ⌜ r ≡ draftOf (circularOf cut (now (s .entry))) ⌝ }
+fn read_circular(repeating: bool, s: &[u8]) -> Draft
+    ensures { λ r. ⌜ r ≡ draftOf (circularOf cut repeating (now (s .entry))) ⌝ }
 {
     let from = 0;
     let end = stoplist::find_comma(s, from);
@@ -135,15 +139,15 @@ fn read_circular(s: &[u8]) -> Draft
         return no_draft();
     };
     let l = stoplist::read_stops(s, end + 1);
-    with_stops(shape, l)
+    with_stops(shape, repeating, l)
 }
 
 fn read_body(k: Kind, s: &[u8]) -> Draft
     ensures { λ r. ⌜ r ≡ draftOf (ofKind cut k (now (s .entry))) ⌝ }
 {
     match k {
-        Kind::Linear => read_linear(s),
-        Kind::Radial => read_circular(s),
+        Kind::Linear(repeating) => read_linear(repeating, s),
+        Kind::Radial(repeating) => read_circular(repeating, s),
     }
 }
 
@@ -172,10 +176,16 @@ fn read_kind(s: &[u8], c: Cursor) -> KindRead
     ensures { λ r. ⌜ viewKind (now (s .entry)) r ≡ kindOf (drop (c .at) (now (s .entry))) ⌝ }
 {
     if let Match::Past(k) = text::keyword(s, c, b"linear-gradient(") {
-        return KindRead::Got(Kind::Linear, k);
+        return KindRead::Got(Kind::Linear(false), k);
     }
     if let Match::Past(k) = text::keyword(s, c, b"radial-gradient(") {
-        return KindRead::Got(Kind::Radial, k);
+        return KindRead::Got(Kind::Radial(false), k);
+    }
+    if let Match::Past(k) = text::keyword(s, c, b"repeating-linear-gradient(") {
+        return KindRead::Got(Kind::Linear(true), k);
+    }
+    if let Match::Past(k) = text::keyword(s, c, b"repeating-radial-gradient(") {
+        return KindRead::Got(Kind::Radial(true), k);
     }
     KindRead::Refused
 }
@@ -238,6 +248,7 @@ fn conclude(d: Draft) -> Reading
         reply: DONE,
         gradient: Gradient {
             shape: shape,
+            repeating: d.repeating,
             count: list.count,
             stops: stops,
         },

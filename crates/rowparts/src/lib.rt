@@ -12,7 +12,7 @@ ghost use lib.ListN.{length};
 ghost use Rattle.line.specs.Represented.{ruleIn};
 ghost use Rattle.line.specs.declared.SignedVector.{SignedVector};
 ghost use Rattle.picture.specs.Picture.{part, patched};
-ghost use Rattle.table.specs.Table.{entryOf, Stretched, Leaps};
+ghost use Rattle.table.specs.Table.{Stretched, Leaps};
 ghost use Rattle.ramp.specs.Ramp.{colorIn, Entries, Ramp, Held};
 ghost use Rattle.rows.specs.Pixel.{pixelBy, rampPixel};
 ghost use Rattle.fixed.specs.Steps.{AlongRow};
@@ -95,8 +95,8 @@ fn renewed(ramp: &[u32], t: Stretch, s: u64) -> Stretch
 // Leaps to the whole part of each pixel's place by the walks of a stretch that has all of them.
 fn draw_from_stretch(t: Stretch, r: RowLine, i: usize, n: usize, at: usize, buf: &mut [u8])
     requires { ⌜ (0 < n) × AllCertain r i n (t .first) (t .count) × Leaps t × (at + 4 * n ≤ length (now buf)) ⌝ }
-    ensures { λ _. ⌜ ((ps vs : List ℕ) (v : SignedVector) (w h j : ℕ) → Stretched ps vs t → AlongRow r v w h j → i + n ≤ w
-        → now (buf .exit) ≡ patched (now (buf .entry)) at (part (pixelBy (ruleIn (Line.Straight v) w h) (entryOf ps vs)) i n j)) ⌝ }
+    ensures { λ _. ⌜ ((color : ℕ → ℕ) (v : SignedVector) (w h j : ℕ) → Stretched color t → AlongRow r v w h j → i + n ≤ w
+        → now (buf .exit) ≡ patched (now (buf .entry)) at (part (pixelBy (ruleIn (Line.Straight v) w h) color) i n j)) ⌝ }
 {
     let step = fixed::step(r);
     let mut e = fixed::place(r, i) - t.first * fixed::ONE;

@@ -7,16 +7,16 @@ use Rattle.line.specs.Box.{Box}
 use Rattle.line.specs.Location.{Rule, locationBy}
 use Rattle.line.specs.Represented.{Sound, ruleIn}
 use Rattle.line.specs.declared.Line.{Line}
-use Rattle.color.specs.Stop.{Stop}
-use Rattle.color.specs.Byte.{bytes, colorAt}
+use Rattle.color.specs.Byte.{bytes}
+use Rattle.color.specs.Paint.{Paint, paintAt}
 use Rattle.picture.specs.Picture.{strip}
 use Rattle.words.specs.Word.{wordBytes}
 use Rattle.ramp.specs.Ramp.{colorIn, Stops}
 use Rattle.rows.specs.declared.Strip.{Strip}
 
 -- the bytes of pixel (i, j): the color at its location
-abbrev pub pixelOf : Rule → List Stop → ℕ → ℕ → List ℕ
-pixelOf rule stops i j = bytes (colorAt stops (pos (locationBy rule i j)))
+abbrev pub pixelOf : Rule → Paint → ℕ → ℕ → List ℕ
+pixelOf rule paint i j = bytes (paintAt paint (pos (locationBy rule i j)))
 
 -- .. where `color` gives the color of a location as a word
 abbrev pub pixelBy : Rule → (ℕ → ℕ) → ℕ → ℕ → List ℕ

@@ -6,13 +6,13 @@ use rows::Strip;
 use straight::Shift;
 ghost use mathlib.Core.Path.{_≡_};
 ghost use mathlib.Core.Bool.{true};
-ghost use Prim.Native.Nat.{_+_, _≤_, _<_};
+ghost use Prim.Native.Nat.{ℕ, _+_, _≤_, _<_};
 ghost use lib.ListN.{length};
 ghost use Rattle.line.specs.declared.Line.{Line};
 ghost use Rattle.line.specs.Box.{Box};
 ghost use Rattle.line.specs.Represented.{Bounded, Near};
 ghost use Rattle.picture.specs.Picture.{patched};
-ghost use Rattle.ramp.specs.Ramp.{headSize, Ramp};
+ghost use Rattle.ramp.specs.Ramp.{headSize, colorIn, Ramp};
 ghost use Rattle.rows.specs.Pixel.{Placed, Rows, Drawable, stripOf};
 ghost use Rattle.circle.specs.Circular.{Circular};
 ghost use Rattle.strips.specs.Plan.{narrow, tinyTable, smallTable, mostEntries, lastBase, Planned, Room};
@@ -321,8 +321,24 @@ fn draw_large_box(p: Plan, stops: &[u32], l: Line, z: Strip, buf: &mut [u8])
     }
 }
 
-// Draws a strip from the buffer's start.
-pub fn draw(stops: &[u32], l: Line, z: Strip, buf: &mut [u8])
+// ---- by what the line and the colors are like
+
+// Draws a strip in which all pixels have one color, as along a line straight down.
+fn draw_one_color(stops: &[u32], l: Line, z: Strip, buf: &mut [u8])
+    requires { ⌜ Drawable (now stops) l z (length (now buf)) × ((s t : ℕ) → colorIn (now stops) s ≡ colorIn (now stops) t) ⌝ }
+    ensures { λ _. ⌜ now (buf .exit) ≡ patched (now (buf .entry)) 0 (stripOf (now (stops .entry)) l z) ⌝ }
+{
+    let down = SignedVector {
+        x: 0,
+        y: 1,
+        left: false,
+        up: false,
+    };
+    axisrows::draw_vertical(stops, down, z, buf);
+}
+
+// Draws a strip of any colors.
+fn draw_colors(stops: &[u32], l: Line, z: Strip, buf: &mut [u8])
     requires { ⌜ Drawable (now stops) l z (length (now buf)) ⌝ }
     ensures { λ _. ⌜ now (buf .exit) ≡ patched (now (buf .entry)) 0 (stripOf (now (stops .entry)) l z) ⌝ }
 {
@@ -349,5 +365,17 @@ pub fn draw(stops: &[u32], l: Line, z: Strip, buf: &mut [u8])
                 draw_large_box(p, stops, l, z, buf);
             }
         }
+    }
+}
+
+// Draws a strip from the buffer's start.
+pub fn draw(stops: &[u32], l: Line, z: Strip, buf: &mut [u8])
+    requires { ⌜ Drawable (now stops) l z (length (now buf)) ⌝ }
+    ensures { λ _. ⌜ now (buf .exit) ≡ patched (now (buf .entry)) 0 (stripOf (now (stops .entry)) l z) ⌝ }
+{
+    if ramp::is_one_color(stops) {
+        draw_one_color(stops, l, z, buf);
+    } else {
+        draw_colors(stops, l, z, buf);
     }
 }

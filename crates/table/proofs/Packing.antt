@@ -6,11 +6,9 @@ use Prim.Native.Nat.{ℕ, zero, suc, _+_, _-_, _*_, _/_, _%_, _≤_}
 use native.Mathlib.Decide.{decLe}
 use native.Mathlib.Omega.{arith}
 use lib.Dec.{leb}
-use lib.IntN.{ℤ, pos}
 use lib.ListN.{length, getD}
 use Rattle.numbers.specs.Fraction.{_⁄_, nearest}
-use Rattle.numbers.specs.Biased.{bias, unbiased}
-use Rattle.numbers.proofs.Integers.{biased-count}
+use Rattle.numbers.specs.Biased.{unbiased}
 use Rattle.color.specs.Stop.{Channel, red, green, blue, alpha}
 use Rattle.color.specs.Byte.{rgba, bytes, colorAt}
 use Rattle.color.specs.Lent.{Small, Lent, stopsOf, valuesAt, lastUpTo}
@@ -46,10 +44,10 @@ values-small vs h i blue = h (4 * i + 2)
 values-small vs h i alpha = h (4 * i + 3)
 
 module _ (ps vs : List ℕ) (h : Lent ps vs) where
-  -- the color that is found at the biased location is the entry
-  pub entry-is : (p : Rgba) (s : ℕ) → p ≡ colorAt (stopsOf ps vs) (unbiased (bias + s)) → packed p ≡ entryOf ps vs s
+  -- the color that is found at a biased location is the entry
+  pub entry-is : (p : Rgba) (at : ℕ) → p ≡ colorAt (stopsOf ps vs) (unbiased at) → packed p ≡ entryOf ps vs at
   unfolding entryOf
-  entry-is p s e = ap packed (e ∙ ap (colorAt (stopsOf ps vs)) (biased-count bias s))
+  entry-is p at e = ap packed e
 
   stop-small : (i : ℕ) (c : Channel) → nearest (valuesAt vs i c ⁄ 255) ≤ 255
   stop-small i c = omega (arith, values-small vs (h .small) i c)
@@ -75,6 +73,6 @@ module _ (ps vs : List ℕ) (h : Lent ps vs) where
       go (suc i) e = either i e (decLe (length ps) (suc i))
 
   -- the bytes of an entry are the color's
-  pub entry-bytes : (s : ℕ) → wordBytes (entryOf ps vs s) ≡ bytes (colorAt (stopsOf ps vs) (pos s))
+  pub entry-bytes : (at : ℕ) → wordBytes (entryOf ps vs at) ≡ bytes (colorAt (stopsOf ps vs) (unbiased at))
   unfolding entryOf
-  entry-bytes s = subst (λ (z : ℤ). Found (colorAt (stopsOf ps vs) z)) (biased-count bias s) (color-found (bias + s))
+  entry-bytes at = color-found at

@@ -8,14 +8,13 @@ use native.Mathlib.Decide.{decLe}
 use native.Mathlib.Numerals.{add-one}
 use native.Mathlib.Omega.{arith}
 use lib.ListN.{length, getD}
-use Rattle.numbers.specs.Biased.{bias}
 use Rattle.numbers.proofs.Integers.{same-leb}
 use Rattle.color.specs.Stop.{placed, lastPlace}
 use Rattle.color.specs.Lent.{Lent, Rising, lastUpTo}
 use Rattle.color.proofs.Place.{last-is}
 use Rattle.color.proofs.Lent.{color-first, color-last, between, color-between}
 use Rattle.walk.specs.Channels.{mixOf}
-use Rattle.table.specs.Table.{packed, entryAt, walkedAt, Spans, Clear, Splits, Ends, Run}
+use Rattle.table.specs.Table.{packed, farthest, entryAt, walkedAt, Spans, Clear, Splits, Ends, Run}
 use Rattle.table.proofs.Packing.{entry-is}
 
 -- ---- positions that rise
@@ -52,10 +51,10 @@ module _ (ps : List ℕ) (at k : ℕ) (r : Rising ps) (s : Splits ps at k) where
       either (no m) = absurd (omega (arith, s .below i (omega arith)))
 
 -- the entries from k up to the first at or above r
-pub run-is : (ps : List ℕ) (base s k n r b : ℕ) → 0 < s → n < 262144 → base + n * s ≤ bias → bias + base + k * s < r → r ≤ bias + base + n * s
-    → Clear (length ps) ps (bias + base + k * s) r → b ≡ (r - (bias + base) + (s - 1)) / s → Run ps base s k b n
-run-is ps base s k n r b pos few range some within clear e =
-    let d : ℕ = r - (bias + base) + (s - 1) in
+pub run-is : (ps : List ℕ) (first s k n r b : ℕ) → 0 < s → n < 262144 → first + n * s ≤ farthest → first + k * s < r → r ≤ first + n * s
+    → Clear (length ps) ps (first + k * s) r → b ≡ (r - first + (s - 1)) / s → Run ps first s k b n
+run-is ps first s k n r b pos few range some within clear e =
+    let d : ℕ = r - first + (s - 1) in
     let lo : d / s * s ≤ d = div-mul-le-self d s in
     let hi : d < d / s * s + s = lt-div-mul-add pos in
     let e₀ : b * s ≡ d / s * s = ap (λ (z : ℕ). z * s) e in
@@ -63,13 +62,12 @@ run-is ps base s k n r b pos few range some within clear e =
     let c : b ≡ b - 1 + 1 = omega arith in
     let m : b * s ≡ (b - 1 + 1) * s = ap (λ (z : ℕ). z * s) c in
     let l₂ : b - 1 < n = lt-of-mul-lt-mul-right s (omega arith) in
-    let e₁ : bias + base + k * s ≡ bias + (base + k * s) = omega arith in
-    let e₂ : bias + (base + (b - 1) * s + 1) ≤ r = omega arith in
-    record { some = l₁; within = omega arith; few = few; range = range; clear = λ i h l. le-trans e₂ (clear i h (rw e₁ l)) }
+    let e₂ : first + (b - 1) * s + 1 ≤ r = omega arith in
+    record { some = l₁; within = omega arith; few = few; range = range; clear = λ i h l. le-trans e₂ (clear i h l) }
 
 -- a run's first location
-pub run-low : (ps : List ℕ) (base s a b n : ℕ) → Run ps base s a b n → base + a * s ≤ bias
-run-low ps base s a b n r =
+pub run-low : (ps : List ℕ) (first s a b n : ℕ) → Run ps first s a b n → first + a * s ≤ farthest
+run-low ps first s a b n r =
     let m : a * s ≤ n * s = mul-le-mul-right s (omega (arith, r .some, r .within)) in
     omega (arith, r .range)
 
@@ -80,39 +78,39 @@ last-clear [] a b s c l m = refl
 last-clear (p ∷ ps) a b s c l m =
     ap₂ placed (same-leb p a p s (λ h. omega arith) (λ h. omega (arith, c 0 (omega arith) h))) (last-clear ps a b s (λ i h. c (suc i) (suc-le-suc h)) l m)
 
-module _ (ps vs : List ℕ) (h : Lent ps vs) (base s a b n : ℕ) (r : Run ps base s a b n) where
-  same : (k : ℕ) → a ≤ k → k < b → lastUpTo ps (bias + (base + a * s)) ≡ lastUpTo ps (bias + (base + k * s))
+module _ (ps vs : List ℕ) (h : Lent ps vs) (first s a b n : ℕ) (r : Run ps first s a b n) where
+  same : (k : ℕ) → a ≤ k → k < b → lastUpTo ps (first + a * s) ≡ lastUpTo ps (first + k * s)
   same k l m =
       let m₁ : a * s ≤ k * s = mul-le-mul-right s l in
       let m₂ : k * s ≤ (b - 1) * s = mul-le-mul-right s (omega arith) in
-      sym (last-clear ps (bias + (base + a * s)) (bias + (base + (b - 1) * s + 1)) (bias + (base + k * s)) (r .clear) (omega arith) (omega arith))
+      sym (last-clear ps (first + a * s) (first + (b - 1) * s + 1) (first + k * s) (r .clear) (omega arith) (omega arith))
 
   -- before the first stop, and from the last one on, every entry is the first
-  pub flat-first : 0 ≡ lastUpTo ps (bias + (base + a * s)) → (k : ℕ) → a ≤ k → k < b → entryAt ps vs base s a ≡ entryAt ps vs base s k
+  pub flat-first : 0 ≡ lastUpTo ps (first + a * s) → (k : ℕ) → a ≤ k → k < b → entryAt ps vs first s a ≡ entryAt ps vs first s k
   flat-first e k l m =
-      sym (entry-is ps vs h _ (base + a * s) (color-first ps vs h (bias + (base + a * s)) e))
-      ∙ entry-is ps vs h _ (base + k * s) (color-first ps vs h (bias + (base + k * s)) (e ∙ same k l m))
+      sym (entry-is ps vs h _ (first + a * s) (color-first ps vs h (first + a * s) e))
+      ∙ entry-is ps vs h _ (first + k * s) (color-first ps vs h (first + k * s) (e ∙ same k l m))
 
-  pub flat-last : (i : ℕ) → suc i ≡ lastUpTo ps (bias + (base + a * s)) → suc i ≡ length ps → (k : ℕ) → a ≤ k → k < b
-      → entryAt ps vs base s a ≡ entryAt ps vs base s k
+  pub flat-last : (i : ℕ) → suc i ≡ lastUpTo ps (first + a * s) → suc i ≡ length ps → (k : ℕ) → a ≤ k → k < b
+      → entryAt ps vs first s a ≡ entryAt ps vs first s k
   flat-last i e z k l m =
-      sym (entry-is ps vs h _ (base + a * s) (color-last ps vs h (bias + (base + a * s)) i e z))
-      ∙ entry-is ps vs h _ (base + k * s) (color-last ps vs h (bias + (base + k * s)) i (e ∙ same k l m) z)
+      sym (entry-is ps vs h _ (first + a * s) (color-last ps vs h (first + a * s) i e z))
+      ∙ entry-is ps vs h _ (first + k * s) (color-last ps vs h (first + k * s) i (e ∙ same k l m) z)
 
   -- between stop i and the next
-  module _ (i : ℕ) (e : i + 1 ≡ lastUpTo ps (bias + (base + a * s))) (z : i + 1 < length ps) where
-    at-stop : suc i ≡ lastUpTo ps (bias + (base + a * s))
+  module _ (i : ℕ) (e : i + 1 ≡ lastUpTo ps (first + a * s)) (z : i + 1 < length ps) where
+    at-stop : suc i ≡ lastUpTo ps (first + a * s)
     at-stop = sym (add-one i) ∙ e
 
     not-last : suc i ≡ length ps → ⊥
     not-last p = omega arith
 
-    pub edges : (getD ps i 0 ≤ bias + (base + a * s)) × (bias + (base + (b - 1) * s + 1) ≤ getD ps (i + 1) 0)
+    pub edges : (getD ps i 0 ≤ first + a * s) × (first + (b - 1) * s + 1 ≤ getD ps (i + 1) 0)
     edges =
-        let w = between ps vs h (bias + (base + a * s)) i at-stop not-last in
+        let w = between ps vs h (first + a * s) i at-stop not-last in
         (w .below, r .clear (i + 1) z (w .above))
 
-    pub spans : Spans (getD ps (i + 1) 0 - getD ps i 0) s (bias + (base + a * s) - getD ps i 0) a b
+    pub spans : Spans (getD ps (i + 1) 0 - getD ps i 0) s (first + a * s - getD ps i 0) a b
     spans =
         let c : b - 1 - a + a ≡ b - 1 = omega (arith, r .some) in
         let m : (b - 1 - a + a) * s ≡ (b - 1) * s = ap (λ (k : ℕ). k * s) c in
@@ -120,13 +118,13 @@ module _ (ps vs : List ℕ) (h : Lent ps vs) (base s a b n : ℕ) (r : Run ps ba
 
     -- every entry is a mix
     pub walked-entry : (k : ℕ) → a ≤ k → k < b
-        → walkedAt vs i (getD ps (i + 1) 0 - getD ps i 0) s (bias + (base + a * s) - getD ps i 0) a k ≡ entryAt ps vs base s k
+        → walkedAt vs i (getD ps (i + 1) 0 - getD ps i 0) s (first + a * s - getD ps i 0) a k ≡ entryAt ps vs first s k
     unfolding walkedAt
     walked-entry k l m =
-        let at : ℕ = bias + (base + k * s) in
-        let x : ℕ = bias + (base + a * s) - getD ps i 0 + (k - a) * s in
+        let at : ℕ = first + k * s in
+        let x : ℕ = first + a * s - getD ps i 0 + (k - a) * s in
         let c : k - a + a ≡ k = omega arith in
         let o : (k - a + a) * s ≡ k * s = ap (λ (j : ℕ). j * s) c in
         let ex : x ≡ at - getD ps i 0 = omega (arith, edges) in
         let ey : getD ps (i + 1) 0 - getD ps i 0 - x ≡ getD ps (i + 1) 0 - at = omega (arith, edges) in
-        ap₂ (λ (u v : ℕ). packed (mixOf vs i u v)) ex ey ∙ entry-is ps vs h _ (base + k * s) (color-between ps vs h at i (at-stop ∙ same k l m) not-last)
+        ap₂ (λ (u v : ℕ). packed (mixOf vs i u v)) ex ey ∙ entry-is ps vs h _ (first + k * s) (color-between ps vs h at i (at-stop ∙ same k l m) not-last)

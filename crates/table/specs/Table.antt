@@ -3,9 +3,8 @@
 use mathlib.Core.Path.{_≡_}
 use mathlib.Core.List.{List}
 use Prim.Native.Nat.{ℕ, _+_, _-_, _*_, _≤_, _<_}
-use lib.IntN.{pos}
 use lib.ListN.{length, getD}
-use Rattle.numbers.specs.Biased.{bias}
+use Rattle.numbers.specs.Biased.{twiceBias, unbiased}
 use Rattle.color.specs.Stop.{Channel}
 use Rattle.color.specs.Byte.{colorAt}
 use Rattle.color.specs.Lent.{stopsOf}
@@ -15,25 +14,25 @@ use Rattle.walk.specs.Channels.{walkOf, Going, mixOf}
 use Rattle.walk.specs.declared.Channels.{Channels}
 use Rattle.table.specs.declared.Stretch.{Stretch}
 
--- the code takes locations below 2^63, so that the bias can be added to them
-abbrev pub locationLimit : ℕ
-locationLimit = 9223372036854775808
+-- 2^27: no table reaches beyond this biased location
+abbrev pub farthest : ℕ
+farthest = 134217728
 
 -- a color as a word: its lowest byte is red
 abbrev pub packed : Rgba → ℕ
 packed p = p .red + 256 * p .green + 65536 * p .blue + 16777216 * p .alpha
 
--- the color of lent stops at the location s
+-- the color of lent stops at a biased location
 unfoldable pub entryOf : List ℕ → List ℕ → ℕ → ℕ
-entryOf ps vs s = packed (colorAt (stopsOf ps vs) (pos s))
+entryOf ps vs at = packed (colorAt (stopsOf ps vs) (unbiased at))
 
--- the color of entry k, in a table that starts at `base` and has an entry every s units
+-- the color of entry k, in a table that starts at the biased location `first` and has an entry every s units
 abbrev pub entryAt : List ℕ → List ℕ → ℕ → ℕ → ℕ → ℕ
-entryAt ps vs base s k = entryOf ps vs (base + k * s)
+entryAt ps vs first s k = entryOf ps vs (first + k * s)
 
 -- every entry is the color at its location
 abbrev pub Spaced : List ℕ → List ℕ → ℕ → ℕ → List ℕ → Type 0
-Spaced ps vs base s t = (k : ℕ) → k < length t → getD t k 0 ≡ entryAt ps vs base s k
+Spaced ps vs first s t = (k : ℕ) → k < length t → getD t k 0 ≡ entryAt ps vs first s k
 
 -- the color of entry k by a walk in steps of s units that is x units from stop i at entry a, in a gap of g units
 unfoldable pub walkedAt : List ℕ → ℕ → ℕ → ℕ → ℕ → ℕ → ℕ → ℕ
@@ -65,37 +64,36 @@ pub record Ends (ps : List ℕ) (k limit b : ℕ) : Type 0 where
   pub past : (at : ℕ) → at < limit → (k < length ps → at < getD ps k 0) → at < b
 
 -- the entries from a up to b, of n, whose locations have no position between them
-pub record Run (ps : List ℕ) (base s a b n : ℕ) : Type 0 where
+pub record Run (ps : List ℕ) (first s a b n : ℕ) : Type 0 where
   pub some : a < b
   pub within : b ≤ n
   pub few : n < mostSteps
-  pub range : base + n * s ≤ bias
-  pub clear : Clear (length ps) ps (bias + (base + a * s)) (bias + (base + (b - 1) * s + 1))
-
--- the positions at places i and i + 1 have a location between them, and it is not far away
-pub record Within (ps : List ℕ) (i : ℕ) : Type 0 where
-  pub location : ℕ
-  pub near : location < 16777216
-  pub splits : Splits ps (bias + location) (i + 1)
+  pub range : first + n * s ≤ farthest
+  pub clear : Clear (length ps) ps (first + a * s) (first + (b - 1) * s + 1)
 
 -- before the first position, or from the last one on: k positions, none or all, are at or below the biased location `first`, and stop i has the color
 pub record Flat (ps : List ℕ) (i first k : ℕ) : Type 0 where
-  pub low : bias ≤ first
-  pub near : first < bias + 16777216
+  pub near : first ≤ twiceBias
   pub splits : Splits ps first k
   pub outside : 0 < k → k ≡ length ps
   pub stop : i ≡ k - 1
 
--- all locations of a stretch have the same stops around them, and its walks, which go by `values`, are at the first location
-pub record Stretched (ps vs : List ℕ) (t : Stretch) : Type 0 where
+-- the walks of a stretch, which go by `values`, are at its first location, and give the color of each location
+pub record Stretched (color : ℕ → ℕ) (t : Stretch) : Type 0 where
   pub values : List ℕ
   pub place : ℕ
   pub gap : ℕ
   pub start : ℕ
-  pub range : t .first + t .count ≤ bias
+  pub range : t .first ≤ farthest
   pub spans : Spans gap 1 start 0 (t .count)
   pub reached : 0 < t .count → Reached values place gap 1 start 0 0 (t .walks)
-  pub colors : (k : ℕ) → k < t .count → walkedAt values place gap 1 start 0 k ≡ entryAt ps vs (t .first) 1 k
+  pub colors : (k : ℕ) → k < t .count → walkedAt values place gap 1 start 0 k ≡ color (t .first + k)
+
+-- a stretch of biased locations begins at `low` or later, and not far away; where `at` is from the first position up to but not including the last, so is all of it
+pub record Near (ps : List ℕ) (at low : ℕ) (t : Stretch) : Type 0 where
+  pub not-far : t .first ≤ twiceBias
+  pub from-low : 0 < t .count → low ≤ t .first
+  pub inside : 0 < t .count → getD ps 0 0 ≤ at → at < getD ps (length ps - 1) 0 → (getD ps 0 0 ≤ t .first) × (t .first + t .count ≤ getD ps (length ps - 1) 0)
 
 -- the walks of a stretch can be leapt to each of its locations, as many as walks are right for
 pub record Leaps (t : Stretch) : Type 0 where

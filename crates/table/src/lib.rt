@@ -11,19 +11,16 @@ ghost use Prim.Native.Nat.{ℕ, _+_, _-_, _*_, _/_, _≤_, _<_};
 ghost use lib.ListN.{length, getD};
 ghost use Rattle.color.specs.Stop.{Channel};
 ghost use Rattle.color.specs.Lent.{Lent, Small, lastUpTo};
-ghost use Rattle.numbers.specs.Biased.{bias};
+ghost use Rattle.numbers.specs.Biased.{twiceBias};
 ghost use Rattle.walk.specs.Walk.{mostSteps, Gap, Fits};
 ghost use Rattle.walk.specs.Channels.{walkOf, Paced};
-ghost use Rattle.table.specs.Table.{packed, locationLimit, entryOf, entryAt, Spaced, walkedAt, Reached, Spans, Stored, Splits, Ends, Run, Within, Flat, Stretched, Leaps};
+ghost use Rattle.table.specs.Table.{packed, farthest, entryOf, entryAt, Spaced, walkedAt, Reached, Spans, Stored, Splits, Ends, Run, Flat, Stretched, Near, Leaps};
 
 // From this many units on, a gap is too long for walks.
 const LONG_GAP: u32 = 16777216;
 
 // The most locations of a stretch.
 const LONGEST: u32 = 262143;
-
-// From this location on there are no stretches.
-const FAR: u64 = 16777216;
 
 // ---- packed colors
 
@@ -33,12 +30,12 @@ fn pack(p: Rgba) -> u32
     (p.red as u32) + 256 * (p.green as u32) + 65536 * (p.blue as u32) + 16777216 * (p.alpha as u32)
 }
 
-// The color at a location, packed.
-pub fn color_of(positions: &[u32], values: &[u32], s: u64) -> u32
-    requires { ⌜ Lent (now positions) (now values) × (s < locationLimit) ⌝ }
-    ensures { λ r. ⌜ r ≡ entryOf (now (positions .entry)) (now (values .entry)) s ⌝ }
+// The color at a biased location, packed.
+pub fn color_of(positions: &[u32], values: &[u32], at: u64) -> u32
+    requires { ⌜ Lent (now positions) (now values) ⌝ }
+    ensures { λ r. ⌜ r ≡ entryOf (now (positions .entry)) (now (values .entry)) at ⌝ }
 {
-    pack(color::color_at(positions, values, numbers::WIDE_BIAS + s))
+    pack(color::color_at(positions, values, at))
 }
 
 // ---- the entries from `at` up to `end`
@@ -205,15 +202,15 @@ fn fill_each(
     end: usize,
     positions: &[u32],
     values: &[u32],
-    base: u32,
+    first: u32,
     stride: u32,
 )
-    requires { ⌜ Lent (now positions) (now values) × (at ≤ end) × (end ≤ length (now t)) × (base + length (now t) * stride ≤ bias) × (length (now t) < mostSteps) ⌝ }
-    ensures { λ _. ⌜ Stored (entryAt (now (positions .entry)) (now (values .entry)) base stride) at end (now (t .entry)) (now (t .exit)) ⌝ }
+    requires { ⌜ Lent (now positions) (now values) × (at ≤ end) × (end ≤ length (now t)) × (first + length (now t) * stride ≤ farthest) × (length (now t) < mostSteps) ⌝ }
+    ensures { λ _. ⌜ Stored (entryAt (now (positions .entry)) (now (values .entry)) first stride) at end (now (t .entry)) (now (t .exit)) ⌝ }
 {
     let mut k = at;
     while k < end {
-        t[k] = color_of(positions, values, (base + (k as u32) * stride) as u64);
+        t[k] = color_of(positions, values, (first + (k as u32) * stride) as u64);
         k += 1;
     }
 }
@@ -248,7 +245,7 @@ fn run_end(positions: &[u32], place: usize, limit: u32) -> u32
 }
 
 // n / stride, faster for the stride of rows and columns.
-fn entries_in(n: u32, stride: u32) -> u32
+pub fn entries_in(n: u32, stride: u32) -> u32
     requires { ⌜ 0 < stride ⌝ }
     ensures { λ r. ⌜ r ≡ n / stride ⌝ }
 {
@@ -262,25 +259,25 @@ fn fill_between(
     end: usize,
     positions: &[u32],
     values: &[u32],
-    base: u32,
+    first: u32,
     stride: u32,
     i: usize,
 )
-    requires { ⌜ Lent (now positions) (now values) × Run (now positions) base stride at end (length (now t)) ⌝ }
-    requires { ⌜ (i + 1 ≡ lastUpTo (now positions) (bias + (base + at * stride))) × (i + 1 < length (now positions)) ⌝ }
-    ensures { λ _. ⌜ Stored (entryAt (now (positions .entry)) (now (values .entry)) base stride) at end (now (t .entry)) (now (t .exit)) ⌝ }
+    requires { ⌜ Lent (now positions) (now values) × Run (now positions) first stride at end (length (now t)) ⌝ }
+    requires { ⌜ (i + 1 ≡ lastUpTo (now positions) (first + at * stride)) × (i + 1 < length (now positions)) ⌝ }
+    ensures { λ _. ⌜ Stored (entryAt (now (positions .entry)) (now (values .entry)) first stride) at end (now (t .entry)) (now (t .exit)) ⌝ }
 {
     let a = positions[i];
     let g = positions[i + 1] - a;
     if LONG_GAP <= g {
-        fill_each(t, at, end, positions, values, base, stride);
+        fill_each(t, at, end, positions, values, first, stride);
         return;
     }
     if g < stride {
-        fill_each(t, at, end, positions, values, base, stride);
+        fill_each(t, at, end, positions, values, first, stride);
         return;
     }
-    let x = numbers::BIAS + (base + (at as u32) * stride) - a;
+    let x = first + (at as u32) * stride - a;
     fill_gap(t, at, end, values, i, g, stride, x);
 }
 
@@ -291,14 +288,14 @@ fn fill_run(
     end: usize,
     positions: &[u32],
     values: &[u32],
-    base: u32,
+    first: u32,
     stride: u32,
     place: usize,
 )
-    requires { ⌜ Lent (now positions) (now values) × Run (now positions) base stride at end (length (now t)) × (place ≡ lastUpTo (now positions) (bias + (base + at * stride))) ⌝ }
-    ensures { λ _. ⌜ Stored (entryAt (now (positions .entry)) (now (values .entry)) base stride) at end (now (t .entry)) (now (t .exit)) ⌝ }
+    requires { ⌜ Lent (now positions) (now values) × Run (now positions) first stride at end (length (now t)) × (place ≡ lastUpTo (now positions) (first + at * stride)) ⌝ }
+    ensures { λ _. ⌜ Stored (entryAt (now (positions .entry)) (now (values .entry)) first stride) at end (now (t .entry)) (now (t .exit)) ⌝ }
 {
-    let s = (base + (at as u32) * stride) as u64;
+    let s = (first + (at as u32) * stride) as u64;
     if place == 0 {
         fill_flat(t, at, end, color_of(positions, values, s));
         return;
@@ -307,18 +304,17 @@ fn fill_run(
         fill_flat(t, at, end, color_of(positions, values, s));
         return;
     }
-    fill_between(t, at, end, positions, values, base, stride, place - 1);
+    fill_between(t, at, end, positions, values, first, stride, place - 1);
 }
 
 // ---- the table
 
-// Fills the table, run by run, with the colors of the locations from `base` on, `stride` units apart.
-pub fn fill_spaced(t: &mut [u32], positions: &[u32], values: &[u32], base: u32, stride: u32)
-    requires { ⌜ Lent (now positions) (now values) × (0 < stride) × (base + length (now t) * stride ≤ bias) × (length (now t) < mostSteps) ⌝ }
-    ensures { λ _. ⌜ Spaced (now (positions .entry)) (now (values .entry)) base stride (now (t .exit)) × (length (now (t .exit)) ≡ length (now (t .entry))) ⌝ }
+// Fills the table, run by run, with the colors of the locations from the biased location `first` on, `stride` units apart.
+pub fn fill_spaced(t: &mut [u32], positions: &[u32], values: &[u32], first: u32, stride: u32)
+    requires { ⌜ Lent (now positions) (now values) × (0 < stride) × (first + length (now t) * stride ≤ farthest) × (length (now t) < mostSteps) ⌝ }
+    ensures { λ _. ⌜ Spaced (now (positions .entry)) (now (values .entry)) first stride (now (t .exit)) × (length (now (t .exit)) ≡ length (now (t .entry))) ⌝ }
 {
     let n = t.len();
-    let first = numbers::BIAS + base;
     let limit = first + (n as u32) * stride;
     let mut k = 0;
     let mut place = 0;
@@ -326,7 +322,7 @@ pub fn fill_spaced(t: &mut [u32], positions: &[u32], values: &[u32], base: u32, 
         place = place_above(positions, place, first + (k as u32) * stride);
         let r = run_end(positions, place, limit);
         let end = entries_in(r - first + (stride - 1), stride) as usize;
-        fill_run(t, k, end, positions, values, base, stride, place);
+        fill_run(t, k, end, positions, values, first, stride, place);
         k = end;
     }
 }
@@ -364,62 +360,76 @@ pub fn no_stretch() -> Stretch
     }
 }
 
-// A position, or that of the location 0 where it is below.
-fn from_zero(a: u32) -> u32
-    ensures { λ r. ⌜ (bias ≤ r) × (a ≤ r) × ((n : ℕ) → bias ≤ n → a ≤ n → r ≤ n) ⌝ }
+fn later(a: u32, b: u32) -> u32
+    ensures { λ r. ⌜ (a ≤ r) × (b ≤ r) × ((n : ℕ) → a ≤ n → b ≤ n → r ≤ n) ⌝ }
 {
-    if a < numbers::BIAS { numbers::BIAS } else { a }
+    if a < b { b } else { a }
 }
 
-// The stretch between stop i and the next.
-fn stretch_between(positions: &[u32], values: &[u32], i: usize) -> Stretch
-    requires { ⌜ Lent (now positions) (now values) × (i + 1 < length (now positions)) × Within (now positions) i ⌝ }
-    ensures { λ t. ⌜ Stretched (now (positions .entry)) (now (values .entry)) t ⌝ }
+// The stretch between stop i and the next, from `low` on.
+fn stretch_between(positions: &[u32], values: &[u32], i: usize, at: u32, low: u32) -> Stretch
+    requires { ⌜ Lent (now positions) (now values) × (i + 1 < length (now positions)) × Splits (now positions) at (i + 1) × (low ≤ at) × (at ≤ twiceBias) ⌝ }
+    ensures { λ t. ⌜ Stretched (entryOf (now (positions .entry)) (now (values .entry))) t × Near (now (positions .entry)) at low t ⌝ }
 {
     let a = positions[i];
     let g = positions[i + 1] - a;
     if LONG_GAP <= g {
         return no_stretch();
     }
-    let first = from_zero(a);
+    let first = later(a, low);
     let end = run_end(positions, i + 1, first + LONGEST);
     Stretch {
-        first: (first - numbers::BIAS) as u64,
+        first: first as u64,
         count: (end - first) as u64,
         walks: walk::begin_any(values, i, g, 1, first - a),
     }
 }
 
-// The stretch from the biased location `first` up to the position at a place, where all locations have the color of stop i.
+// The stretch from `first` up to the position at a place, where all locations have the color of stop i.
 fn flat_stretch(positions: &[u32], values: &[u32], i: usize, first: u32, place: usize) -> Stretch
     requires { ⌜ Lent (now positions) (now values) × Flat (now positions) i first place ⌝ }
-    ensures { λ t. ⌜ Stretched (now (positions .entry)) (now (values .entry)) t ⌝ }
+    ensures { λ t. ⌜ Stretched (entryOf (now (positions .entry)) (now (values .entry))) t × (t .first ≡ first) ⌝ }
 {
     let end = run_end(positions, place, first + LONGEST);
     Stretch {
-        first: (first - numbers::BIAS) as u64,
+        first: first as u64,
         count: (end - first) as u64,
         walks: walk::stay_all(values, i),
     }
 }
 
-// The stretch that s is in, or its first locations where there are too many; one of no locations where s is far away or in a gap that is too long.
-pub fn stretch_at(positions: &[u32], values: &[u32], s: u64) -> Stretch
-    requires { ⌜ Lent (now positions) (now values) ⌝ }
-    ensures { λ t. ⌜ Stretched (now (positions .entry)) (now (values .entry)) t ⌝ }
+// The stretch that the biased location `at` is in, from `low` on, or its first locations where there are too many; one of no locations in a gap that is
+// too long.
+pub fn stretch_at(positions: &[u32], values: &[u32], at: u32, low: u32) -> Stretch
+    requires { ⌜ Lent (now positions) (now values) × (low ≤ at) × (at ≤ twiceBias) ⌝ }
+    ensures { λ t. ⌜ Stretched (entryOf (now (positions .entry)) (now (values .entry))) t × Near (now (positions .entry)) at low t ⌝ }
 {
-    if FAR <= s {
-        return no_stretch();
-    }
-    let place = place_above(positions, 0, numbers::BIAS + (s as u32));
+    let place = place_above(positions, 0, at);
     if place == 0 {
-        return flat_stretch(positions, values, 0, numbers::BIAS, 0);
+        return flat_stretch(positions, values, 0, low, 0);
     }
     if place == positions.len() {
         let i = place - 1;
-        return flat_stretch(positions, values, i, from_zero(positions[i]), place);
+        return flat_stretch(positions, values, i, later(positions[i], low), place);
     }
-    stretch_between(positions, values, place - 1)
+    stretch_between(positions, values, place - 1, at, low)
+}
+
+// The same colors at other locations: what is at `from` moves to `to`.
+pub fn moved(t: Stretch, from: u64, to: u64) -> Stretch
+    requires { ⌜ (0 < t .count → from ≤ t .first + to) × (t .first < 4294967296) × (to < 4294967296) ⌝ }
+    ensures { λ r. ⌜ (r .first ≤ t .first + to) × (0 < t .count → r .first + from ≡ t .first + to)
+        × ((f color : ℕ → ℕ) → Stretched f t → r .first ≤ farthest → ((k : ℕ) → k < t .count → f (t .first + k) ≡ color (r .first + k)) → Stretched color r) ⌝ }
+{
+    if t.count == 0 {
+        return no_stretch();
+    }
+    let walks = t.walks;
+    Stretch {
+        first: t.first + to - from,
+        count: t.count,
+        walks,
+    }
 }
 
 // Whether a stretch has the location s.
@@ -435,7 +445,7 @@ pub fn is_in(t: Stretch, s: u64) -> bool
 // The color at the location that is n units from the stretch's first.
 pub fn color_in(t: Stretch, n: u32) -> u32
     requires { ⌜ Leaps t × (n < t .count) ⌝ }
-    ensures { λ r. ⌜ ((ps vs : List ℕ) → Stretched ps vs t → r ≡ entryOf ps vs (t .first + n)) ⌝ }
+    ensures { λ r. ⌜ ((color : ℕ → ℕ) → Stretched color t → r ≡ color (t .first + n)) ⌝ }
 {
     pack(walk::mixed(walk::leap_all(t.walks, n as u64)))
 }

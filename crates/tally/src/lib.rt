@@ -3,10 +3,13 @@ use libc::STDOUT_FILENO;
 ghost use mathlib.Core.Path.{_≡_};
 ghost use lib.ListN.{length, replicate};
 
-// What was compared: pictures, how many of them in part, and their pixels; how many pictures differ; and pictures that were refused.
+// What was compared: pictures, how many of them in part, of gradients that repeat, and in one color, and their pixels; how many pictures differ; and
+// pictures that were refused.
 pub struct Tally {
     pub pictures: u64,
     pub parts: u64,
+    pub repeated: u64,
+    pub even: u64,
     pub pixels: u64,
     pub different: u64,
     pub refused: u64,
@@ -29,6 +32,8 @@ pub fn none() -> Tally {
     Tally {
         pictures: 0,
         parts: 0,
+        repeated: 0,
+        even: 0,
         pixels: 0,
         different: 0,
         refused: 0,
@@ -39,6 +44,8 @@ pub fn refusal() -> Tally {
     Tally {
         pictures: 0,
         parts: 0,
+        repeated: 0,
+        even: 0,
         pixels: 0,
         different: 0,
         refused: 1,
@@ -49,6 +56,8 @@ pub fn sum(s: Tally, t: Tally) -> Tally {
     Tally {
         pictures: std::num::wrapping_add_u64(s.pictures, t.pictures),
         parts: std::num::wrapping_add_u64(s.parts, t.parts),
+        repeated: std::num::wrapping_add_u64(s.repeated, t.repeated),
+        even: std::num::wrapping_add_u64(s.even, t.even),
         pixels: std::num::wrapping_add_u64(s.pixels, t.pixels),
         different: std::num::wrapping_add_u64(s.different, t.different),
         refused: std::num::wrapping_add_u64(s.refused, t.refused),
@@ -105,7 +114,11 @@ pub fn say_tally(t: Tally) {
     say_number(t.pictures);
     say(b" pictures, ");
     say_number(t.parts);
-    say(b" in part; ");
+    say(b" in part, ");
+    say_number(t.repeated);
+    say(b" that repeat, ");
+    say_number(t.even);
+    say(b" in one color; ");
     say_number(t.pixels);
     say(b" pixels; ");
     say_number(t.different);

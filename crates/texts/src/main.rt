@@ -173,6 +173,9 @@ fn say_stops(g: Gradient) {
 }
 
 fn say_gradient(g: Gradient) {
+    if g.repeating {
+        say(b"repeating ");
+    }
     let s = g.shape;
     say_shape(s);
     say_stops(g);

@@ -24,7 +24,7 @@ draw-stops-requires : tie.Need-draw-stops-requires
 draw-stops-requires c κs =
     let s = c .before .before .before .before .before .before in
     let r : Ready (c .before .before .place-in-box .result) = placedReady (c .before .before) in
-    (record { box = s .pre .0; sound = c .before .before .before .line-of .ensures .sound }, r .lendable, r .some, s .pre .2, s .pre .3)
+    (record { box = s .pre .0; sound = c .before .before .before .line-of .ensures .sound }, r .lendable, r .two, s .pre .2, s .pre .3)
 
 same-length : tie.Need-same-length
 same-length c = search needs

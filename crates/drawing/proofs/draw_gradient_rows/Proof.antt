@@ -32,7 +32,7 @@ same-length-2 c = search needs
 returns-2 : tie.Need-returns-2
 returns-2 c =
     let z = sym (c .before .before .before .before .before .gradient-reply .ensures) ∙ c .before .before .before .before .if1 .left in
-    drawn _ _ _ _ _ _ _ _ (bounds .some-scale _ _ _ (drawable _ _ _ _ _ _ z .room .box)) z (c .before .before .draw-strip .ensures)
+    drawn _ _ _ _ _ _ _ _ _ (bounds .some-scale _ _ _ (drawable _ _ _ _ _ _ z .room .box)) z (c .before .before .draw-strip .ensures)
 
 pub draw-gradient-rows-spec : {M : Type 1} → statement M
 draw-gradient-rows-spec =

@@ -27,7 +27,7 @@ line-of-requires c κs = let k = along _ _ _ _ _ (sym (c .before .stops-reply .e
 draw-placed-requires : tie.Need-draw-placed-requires
 draw-placed-requires c κs =
     let k = along _ _ _ _ _ (sym (c .before .before .before .stops-reply .ensures) ∙ c .before .before .if1 .left) in
-    (record { box = k .room .box; sound = c .before .line-of .ensures .sound }, k .stops .lendable, k .stops .some, k .room .rows)
+    (record { box = k .room .box; sound = c .before .line-of .ensures .sound }, k .stops .lendable, k .stops .two, k .room .rows)
 
 same-length-2 : tie.Need-same-length-2
 same-length-2 c = search needs
@@ -35,7 +35,7 @@ same-length-2 c = search needs
 returns-2 : tie.Need-returns-2
 returns-2 c =
     let z = sym (c .before .before .before .before .before .before .stops-reply .ensures) ∙ c .before .before .before .before .before .if1 .left in
-    drawn _ _ _ _ _ _ _ _ (bounds .some-scale _ _ _ (along _ _ _ _ _ z .room .box)) z (painted-same (c .before .before .before .before .line-of .ensures .is) refl (c .before .before .draw-placed .ensures))
+    drawn _ _ _ _ _ _ _ _ _ (bounds .some-scale _ _ _ (along _ _ _ _ _ z .room .box)) z (painted-same (c .before .before .before .before .line-of .ensures .is) refl (c .before .before .draw-placed .ensures))
 
 pub draw-stops-spec : {M : Type 1} → statement M
 draw-stops-spec =

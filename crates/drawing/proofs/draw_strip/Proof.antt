@@ -25,7 +25,7 @@ draw-placed-requires : tie.Need-draw-placed-requires
 draw-placed-requires c κs =
     let s = c .before .before .before .before in
     let r : Ready (c .before .place-in-box .result) = placedReady (c .before) in
-    (record { box = s .pre .0; sound = c .before .before .line-of .ensures .sound }, r .lendable, r .some, s .pre .2)
+    (record { box = s .pre .0; sound = c .before .before .line-of .ensures .sound }, r .lendable, r .two, s .pre .2)
 
 same-length : tie.Need-same-length
 same-length c = search needs

@@ -2,6 +2,7 @@
 use mathlib.Core.Path.{_≡_, refl, sym, ap, _∙_}
 use Prim.Native.Nat.{ℕ, _-_, _≤_}
 use native.Mathlib.Omega.{arith}
+use lib.Dec.{eqb}
 use lib.ListN.{length, take, length-set}
 use lib.Seq.{take-all}
 use denote.Ref.{now}
@@ -52,12 +53,15 @@ shape-at-requires c κs = search needs
 word-at-requires : tie.Need-word-at-requires Inv-loop μ-loop
 word-at-requires c κs = search needs
 
+word-at-requires-2 : tie.Need-word-at-requires-2 Inv-loop μ-loop
+word-at-requires-2 c κs = search needs
+
 returns : tie.Need-returns Inv-loop μ-loop
 returns c =
-    let l = c .before .before .before .loop in
-    let s = now (c .before .before .before .before .before .before .args .s) in
+    let l = c .before .before .before .before .loop in
+    let s = now (c .before .before .before .before .before .before .before .args .s) in
     let e : l .i ≡ 16 = omega arith in
-    gradient-read s (c .before .shape-at .ensures) (c .word-at .ensures)
+    gradient-read s (c .before .before .shape-at .ensures) (ap (λ (w : ℕ). eqb w 1) (c .before .word-at .ensures)) (c .word-at2 .ensures)
     (sym (take-all (l .i) (l .stops) (omega arith)) ∙ l .inv .2 ∙ ap (λ (k : ℕ). upTo k (stopAt s)) e)
 
 pub gradient-at-spec : {M : Type 1} → statement M
@@ -76,4 +80,5 @@ gradient-at-spec =
     loop-again
     shape-at-requires
     word-at-requires
+    word-at-requires-2
     returns)

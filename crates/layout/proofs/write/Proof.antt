@@ -11,6 +11,10 @@ use Rattle.layout.proofs.Exact.{layout-length}
 use Rattle.layout.proofs.write.Statement.{statement}
 use Rattle.layout.proofs.write.Tie as tie
 
+-- there are 16 places
+full : (c : tie.Start) → length (c .args .g .stops) ≡ 16
+full c = search (unmapped, needs)
+
 head-words-requires : tie.Need-head-words-requires
 head-words-requires c κs = search needs
 
@@ -31,7 +35,7 @@ returns c =
     let p = c .before .before .before .before .before .before in
     let h = p .before .before .before .before in
     let a = h .before .before .before .before .before in
-    let n : length (a .args .g .stops) ≡ 16 = search (unmapped, needs) in
+    let n = full a in
     let d = now (a .args .out) in
     c .before .before .clear-from .ensures
     ∙ painted d (layoutOf (a .args .g)) _ 320 (sym (layout-length (a .args .g) n)) (a .pre)

@@ -1,51 +1,41 @@
 -- `ramp::set_stops` meets its contract. Assumes nothing.
-use mathlib.Core.Path.{_≡_, ap, _∙_}
-use mathlib.Core.List.{List}
-use Prim.Native.Nat.{ℕ, _*_}
+use mathlib.Core.Path.{_≡_, sym, ap, _∙_}
+use mathlib.Core.List.{map}
 use native.Mathlib.Omega.{arith}
-use lib.ListN.{length, length-set}
-use lib.Seq.{length-take-le}
 use denote.Ref.{now}
-use Rattle.gradient.proofs.Lists.{unmapped}
+use Rattle.color.specs.Stop.{stopOf}
+use Rattle.color.specs.Paint.{paintOf}
 use Rattle.stops.specs.Check.{placedOf}
-use Rattle.picture.specs.Picture.{patched}
-use Rattle.color.specs.Numbers.{valuesOf}
-use Rattle.ramp.proofs.Heads.{made}
+use Rattle.ramp.proofs.Heads.{made-once}
 use borrow.Author.Needs.{needs}
 use Rattle.ramp.proofs.set_stops.Statement.{statement}
 use Rattle.ramp.proofs.set_stops.Tie as tie
 
-many : (c : tie.Start) → length (placedOf (c .args .p)) ≡ c .args .p .count
-many c =
-    let full : length (c .args .p .stops) ≡ 16 = search (unmapped, needs) in
-    length-take-le (c .args .p .count) (c .args .p .stops) (omega (arith, c .pre .0 .fit))
+store-stops-requires : tie.Need-store-stops-requires
+store-stops-requires c κs = search needs
 
-slice-write-ramp : tie.Need-slice-write-ramp
-slice-write-ramp c = search needs
-
-store-positions-requires : tie.Need-store-positions-requires
-store-positions-requires c κs =
-    let s = c .before .before in
-    (s .pre .0, rw length-set (omega (arith, s .pre, s .pre .0 .fit)))
-
-store-values-requires : tie.Need-store-values-requires
-store-values-requires c κs =
-    let s = c .before .before .before .before .before .before in
-    (s .pre .0 .fit, omega (arith, s .pre, s .pre .0 .fit, length-set (now (s .args .ramp)) 0 (s .args .p .count)))
+repeat-requires : tie.Need-repeat-requires
+repeat-requires c κs = search needs
 
 same-length : tie.Need-same-length
-same-length c =
-    let s = c .before .before .before .before .before .before .before .before .before in
-    omega (arith, length-set (now (s .args .ramp)) 0 (s .args .p .count))
+same-length c = search needs
 
 returns : tie.Need-returns
 returns c =
-    let s = c .before .before .before .before .before .before .before .before .before in
-    let v = c .before .before .store-values .ensures in
-    let e = v .0 ∙ ap (λ (l : List ℕ). patched l 20 (valuesOf (placedOf (s .args .p)))) (c .before .before .before .before .before .before .store-positions .ensures) in
-    rw e (made (s .args .p) (now (s .args .ramp)) (s .pre .0) (s .pre .1) (many s) (v .1) (s .pre .2))
+    let p = c .before .before .before .before .before .before .before .before .before .before .args .p in
+    let h = c .before .before .before .before .before .before .before .store-stops .ensures .0 in
+    (rw (c .before .before .before .before .if1 .taken) (c .before .before .repeat .ensures (placedOf p) h), h .bytes)
+
+same-length-2 : tie.Need-same-length-2
+same-length-2 c = search needs
+
+returns-2 : tie.Need-returns-2
+returns-2 c =
+    let p = c .before .before .before .before .before .before .args .p in
+    let h = c .before .before .before .store-stops .ensures .0 in
+    (rw (c .if1 .left) (made-once (placedOf p) _ h), h .bytes)
 
 pub set-stops-spec : {M : Type 1} → statement M
 set-stops-spec =
     tie.close
-    (tie.spec slice-write-ramp store-positions-requires store-values-requires same-length returns)
+    (tie.spec store-stops-requires repeat-requires same-length returns same-length-2 returns-2)

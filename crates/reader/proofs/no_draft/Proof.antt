@@ -13,7 +13,7 @@ blank-list-requires : tie.Need-blank-list-requires
 blank-list-requires c κs = search needs
 
 returns : tie.Need-returns
-returns c = ap (λ (t : StopList). record { found = false; shape = Sh.Linear (D.Side S.Top); list = t }) (c .blank-list .ensures)
+returns c = ap (λ (t : StopList). record { found = false; shape = Sh.Linear (D.Side S.Top); repeating = false; list = t }) (c .blank-list .ensures)
 
 pub no-draft-spec : {M : Type 1} → statement M
 no-draft-spec = tie.close (tie.spec blank-list-requires returns)

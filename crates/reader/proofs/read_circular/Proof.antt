@@ -34,7 +34,7 @@ no-draft-requires : tie.Need-no-draft-requires
 no-draft-requires c κs = search needs
 
 returns : tie.Need-returns
-returns c = c .no-draft .ensures ∙ circular-none cut (c .before .before .before .before .before .before .before .args .s .now) _ (c .before .before .before .before .before .find-comma .ensures) (seen (viewShape _) (c .before .enum-told .given .1) (c .before .before .before .whole-radial .ensures))
+returns c = c .no-draft .ensures ∙ circular-none cut _ (c .before .before .before .before .before .before .before .args .s .now) _ (c .before .before .before .before .before .find-comma .ensures) (seen (viewShape _) (c .before .enum-told .given .1) (c .before .before .before .whole-radial .ensures))
 
 add-read-stops : tie.Need-add-read-stops
 add-read-stops c = search needs
@@ -47,8 +47,8 @@ with-stops-requires c κs = search needs
 
 returns-2 : tie.Need-returns-2
 returns-2 c =
-    c .with-stops .ensures ∙ ap (drafted _) (c .before .read-stops .ensures)
-    ∙ circular-got cut (c .before .before .before .before .before .before .before .before .before .args .s .now) _ (c .before .before .before .before .before .before .before .find-comma .ensures) (seen (viewShape _) (c .before .before .before .shape .given .1) (c .before .before .before .before .before .whole-radial .ensures))
+    c .with-stops .ensures ∙ ap (drafted _ _) (c .before .read-stops .ensures)
+    ∙ circular-got cut _ (c .before .before .before .before .before .before .before .before .before .args .s .now) _ (c .before .before .before .before .before .before .before .find-comma .ensures) (seen (viewShape _) (c .before .before .before .shape .given .1) (c .before .before .before .before .before .whole-radial .ensures))
 
 pub read-circular-spec : {M : Type 1} → statement M
 read-circular-spec =

@@ -38,8 +38,8 @@ with-stops-requires c κs = search needs
 
 returns : tie.Need-returns
 returns c =
-    c .with-stops .ensures ∙ ap (drafted _) (c .before .read-stops .ensures)
-    ∙ linear-got cut (c .before .before .before .before .before .before .before .before .before .args .s .now) _ (c .before .before .before .before .before .before .before .find-comma .ensures) (seen (viewDirection _) (c .before .before .before .d .given .1) (c .before .before .before .before .before .whole-direction .ensures))
+    c .with-stops .ensures ∙ ap (drafted _ _) (c .before .read-stops .ensures)
+    ∙ linear-got cut _ (c .before .before .before .before .before .before .before .before .before .args .s .now) _ (c .before .before .before .before .before .before .before .find-comma .ensures) (seen (viewDirection _) (c .before .before .before .d .given .1) (c .before .before .before .before .before .whole-direction .ensures))
 
 enum-told : tie.Need-enum-told
 enum-told c = search needs
@@ -52,8 +52,8 @@ with-stops-requires-2 c κs = search needs
 
 returns-2 : tie.Need-returns-2
 returns-2 c =
-    c .with-stops2 .ensures ∙ ap (drafted _) (c .before .read-stops2 .ensures)
-    ∙ linear-none cut (c .before .before .before .before .before .before .before .before .args .s .now) _ (c .before .before .before .before .before .before .find-comma .ensures) (seen (viewDirection _) (c .before .before .enum-told .given .1) (c .before .before .before .before .whole-direction .ensures))
+    c .with-stops2 .ensures ∙ ap (drafted _ _) (c .before .read-stops2 .ensures)
+    ∙ linear-none cut _ (c .before .before .before .before .before .before .before .before .args .s .now) _ (c .before .before .before .before .before .before .find-comma .ensures) (seen (viewDirection _) (c .before .before .enum-told .given .1) (c .before .before .before .before .whole-direction .ensures))
 
 pub read-linear-spec : {M : Type 1} → statement M
 read-linear-spec =

@@ -5,9 +5,8 @@ use Prim.Native.Nat.{ℕ, _+_, _-_, _≤_, _<_}
 use native.Mathlib.Omega.{arith}
 use denote.Ref.{now}
 use borrow.Author.Needs.{needs}
-use Rattle.table.specs.Table.{entryOf}
 use Rattle.table.proofs.Stretches.{stretched-leaps}
-use Rattle.ramp.specs.Ramp.{positionsIn, valuesIn, colorIn}
+use Rattle.ramp.specs.Ramp.{colorIn}
 use Rattle.rowparts.proofs.color_near.Statement.{statement}
 use Rattle.rowparts.proofs.color_near.Tie as tie
 
@@ -18,10 +17,6 @@ is-in-requires c κs = search needs
 inside : (c : tie.Then1) → let a = c .before .before .before .args in (a .t .first ≤ a .s) × (a .s < a .t .first + a .t .count)
 inside c = c .before .is-in .ensures (c .if1 .taken)
 
-held-color : (rp : List ℕ) (c s q : ℕ) → s ≡ q → c ≡ entryOf (positionsIn rp) (valuesIn rp) s → c ≡ colorIn rp q
-unfolding colorIn
-held-color rp c s q h e = e ∙ ap (entryOf (positionsIn rp) (valuesIn rp)) h
-
 sub-color-in : tie.Need-sub-color-in
 sub-color-in c = inside (c .before) .0
 
@@ -29,12 +24,13 @@ cast-color-in : tie.Need-cast-color-in
 cast-color-in c = search needs
 
 color-in-requires : tie.Need-color-in-requires
-color-in-requires c κs = (stretched-leaps _ _ _ (c .before .before .before .before .pre .1), omega (arith, inside (c .before)))
+color-in-requires c κs = (stretched-leaps _ _ (c .before .before .before .before .pre .1), omega (arith, inside (c .before)))
 
 returns : tie.Need-returns
 returns c =
     let s = c .before .before .before .before .before in
-    held-color (now (s .args .ramp)) _ _ _ (omega (arith, inside (c .before .before))) (c .color-in .ensures _ _ (s .pre .1))
+    let e : s .args .t .first + (s .args .s - s .args .t .first) ≡ s .args .s = omega (arith, inside (c .before .before)) in
+    c .color-in .ensures _ (s .pre .1) ∙ ap (colorIn (now (s .args .ramp))) e
 
 color-requires : tie.Need-color-requires
 color-requires c κs = search needs

@@ -28,7 +28,7 @@ no-stretch-requires : tie.Need-no-stretch-requires Inv-loop μ-loop
 no-stretch-requires c κs = search needs
 
 loop-holds : tie.Need-loop-holds Inv-loop μ-loop
-loop-holds c = let a = c .before .before .before .args in (rw part-none (patch-none (now (a .buf)) (a .at)), omega arith, refl, stretched-none _ _ _ (c .no-stretch .ensures))
+loop-holds c = let a = c .before .before .before .args in (rw part-none (patch-none (now (a .buf)) (a .at)), omega arith, refl, stretched-none _ _ (c .no-stretch .ensures))
 
 add-location : tie.Need-add-location Inv-loop μ-loop
 add-location c = let p = c .before .before .before .before .before .pre in omega (arith, p .2, p .1 .box .width)

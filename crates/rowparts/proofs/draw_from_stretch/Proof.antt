@@ -11,7 +11,7 @@ use Rattle.line.specs.Represented.{ruleIn}
 use Rattle.line.specs.declared.SignedVector.{SignedVector}
 use Rattle.line.specs.declared.Line.the-variants as L
 use Rattle.words.specs.Word.{wordBytes}
-use Rattle.table.specs.Table.{entryOf, Stretched}
+use Rattle.table.specs.Table.{Stretched}
 use Rattle.picture.specs.Picture.{part, patched}
 use Rattle.picture.proofs.Rows.{part-none}
 use Rattle.picture.proofs.Patches.{patch-none}
@@ -26,8 +26,8 @@ use Rattle.rowparts.proofs.draw_from_stretch.Tie as tie
 abbrev Inv-loop : tie.InvT-loop
 Inv-loop t i n at buf₀ step e₀ k₀ o₀ buf e k o =
     (e ≡ (e₀ + step * k) % 18446744073709551616) × (o ≡ at + 4 * k) × (k ≤ n) × (length buf ≡ length buf₀)
-    × ((ps vs : List ℕ) (v : SignedVector) (w h j : ℕ) → Stretched ps vs t → Located (t .first) i n e₀ step v w h j
-    → buf ≡ patched buf₀ at (part (pixelBy (ruleIn (L.Straight v) w h) (entryOf ps vs)) i k j))
+    × ((color : ℕ → ℕ) (v : SignedVector) (w h j : ℕ) → Stretched color t → Located (t .first) i n e₀ step v w h j
+    → buf ≡ patched buf₀ at (part (pixelBy (ruleIn (L.Straight v) w h) color) i k j))
 
 abbrev μ-loop : tie.MeasureT-loop
 μ-loop t i n at buf₀ step e₀ k₀ o₀ buf e k o = n - k
@@ -54,7 +54,7 @@ sub-e c = start c
 loop-holds : tie.Need-loop-holds Inv-loop μ-loop
 loop-holds c =
     let a = c .before .before .before .before .args in
-    (omega arith, omega arith, omega arith, refl, λ ps vs v w h j held located. rw part-none (patch-none (now (a .buf)) (a .at)))
+    (omega arith, omega arith, omega arith, refl, λ color v w h j held located. rw part-none (patch-none (now (a .buf)) (a .at)))
 
 -- the location is in the stretch
 within : (c : tie.In-loop Inv-loop μ-loop) → c .before .loop .e / 33554432 < c .before .before .before .before .before .before .args .t .count
@@ -94,26 +94,26 @@ loop-again c =
       omega arith,
       omega arith,
       omega arith,
-      λ ps vs v w h j held located.
-          let px : (ℕ → ℕ → List ℕ) = pixelBy (ruleIn (L.Straight v) w h) (entryOf ps vs) in
+      λ color v w h j held located.
+          let px : (ℕ → ℕ → List ℕ) = pixelBy (ruleIn (L.Straight v) w h) color in
           let e : c .before .before .before .put-word .last .0 ≡ patched (l .buf) (l .o) (px (a .i + l .k) j) =
           c .before .before .before .put-word .ensures
           ∙ ap (λ (n : ℕ). patched (l .buf) (l .o) (wordBytes n))
-          (c .before .before .before .before .color-in .ensures ps vs held ∙ ap (entryOf ps vs) (ap (λ (z : ℕ). a .t .first + z / 33554432) (l .inv .0) ∙ located (l .k) (c .before .before .before .before .before .before .loop-test .taken))) in
-          part-step px (λ x y. refl) (now (a .buf)) (l .buf) _ (a .at) (l .o) (a .i) (l .k) j (omega arith) (omega arith) (l .inv .4 ps vs v w h j held located) e,
+          (c .before .before .before .before .color-in .ensures color held ∙ ap color (ap (λ (z : ℕ). a .t .first + z / 33554432) (l .inv .0) ∙ located (l .k) (c .before .before .before .before .before .before .loop-test .taken))) in
+          part-step px (λ x y. refl) (now (a .buf)) (l .buf) _ (a .at) (l .o) (a .i) (l .k) j (omega arith) (omega arith) (l .inv .4 color v w h j held located) e,
     )
 
 same-length : tie.Need-same-length Inv-loop μ-loop
 same-length c = c .before .loop .inv .3
 
 returns : tie.Need-returns Inv-loop μ-loop
-returns c = λ ps vs v w h j held follows room.
+returns c = λ color v w h j held follows room.
     let s = c .before .before .before .before .before .before in
     let a = s .args in
     let l = c .before .loop in
     let e : l .k ≡ a .n = omega arith in
     rw e at
-    (l .inv .4 ps vs v w h j held
+    (l .inv .4 color v w h j held
     (λ m b. rw (c .before .before .before .place .ensures)
     (entry-location (a .r) (a .i) (a .n) (a .t .first) (a .t .count) (c .before .before .before .before .step .result) (s .pre .0) (s .pre .1) (c .before .before .before .before .step .ensures) m b v w h j follows room)))
 

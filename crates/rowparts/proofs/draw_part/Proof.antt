@@ -38,7 +38,7 @@ no-stretch-requires : tie.Need-no-stretch-requires
 no-stretch-requires c κs = search needs
 
 draw-by-locations-requires : tie.Need-draw-by-locations-requires
-draw-by-locations-requires c κs = let p = c .before .before .before .before .before .before .before .before .before .pre in (p .0, stretched-none _ _ _ (c .before .no-stretch .ensures), p .1, p .2, p .3)
+draw-by-locations-requires c κs = let p = c .before .before .before .before .before .before .before .before .before .pre in (p .0, stretched-none _ _ (c .before .no-stretch .ensures), p .1, p .2, p .3)
 
 same-length : tie.Need-same-length
 same-length c = search needs

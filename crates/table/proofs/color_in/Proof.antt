@@ -15,9 +15,9 @@ pack-requires : tie.Need-pack-requires
 pack-requires c κs = search needs
 
 returns : tie.Need-returns
-returns c = λ ps vs h.
+returns c = λ color h.
     let s = c .before .before .before in
-    c .pack .ensures ∙ stretched-color ps vs (s .args .t) h (s .args .n) (s .pre .1) (c .before .before .leap-all .result) (c .before .before .leap-all .ensures) _ (c .before .mixed .ensures)
+    c .pack .ensures ∙ stretched-color color (s .args .t) h (s .args .n) (s .pre .1) (c .before .before .leap-all .result) (c .before .before .leap-all .ensures) _ (c .before .mixed .ensures)
 
 pub color-in-spec : {M : Type 1} → statement M
 color-in-spec =

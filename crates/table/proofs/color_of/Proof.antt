@@ -6,9 +6,6 @@ use Rattle.table.proofs.Packing.{entry-is}
 use Rattle.table.proofs.color_of.Statement.{statement}
 use Rattle.table.proofs.color_of.Tie as tie
 
-add-color-at : tie.Need-add-color-at
-add-color-at c = search needs
-
 color-at-requires : tie.Need-color-at-requires
 color-at-requires c κs = search needs
 
@@ -18,7 +15,7 @@ pack-requires c κs = search needs
 returns : tie.Need-returns
 returns c =
     let s = c .before .before .before .before in
-    c .pack .ensures ∙ entry-is (now (s .args .positions)) (now (s .args .values)) (s .pre .0) _ (s .args .s) (c .before .color-at .ensures)
+    c .pack .ensures ∙ entry-is (now (s .args .positions)) (now (s .args .values)) (s .pre) _ (s .args .at) (c .before .color-at .ensures)
 
 pub color-of-spec : {M : Type 1} → statement M
-color-of-spec = tie.close (tie.spec add-color-at color-at-requires pack-requires returns)
+color-of-spec = tie.close (tie.spec color-at-requires pack-requires returns)

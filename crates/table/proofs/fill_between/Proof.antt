@@ -12,21 +12,21 @@ use Rattle.table.proofs.fill_between.Tie as tie
 
 -- the run lies between the positions of the two stops
 ends : (c : tie.Start)
-    → (getD (now (c .args .positions)) (c .args .i) 0 ≤ 33554432 + (c .args .base + c .args .at * c .args .stride))
-    × (33554432 + (c .args .base + (c .args .end - 1) * c .args .stride + 1) ≤ getD (now (c .args .positions)) (c .args .i + 1) 0)
+    → (getD (now (c .args .positions)) (c .args .i) 0 ≤ c .args .first + c .args .at * c .args .stride)
+    × (c .args .first + (c .args .end - 1) * c .args .stride + 1 ≤ getD (now (c .args .positions)) (c .args .i + 1) 0)
 ends c =
     let a = c .args in
     let p = c .pre in
-    edges (now (a .positions)) (now (a .values)) (p .0 .0) (a .base) (a .stride) (a .at) (a .end) (length (now (a .t))) (p .0 .1) (a .i) (p .1 .0) (p .1 .1)
+    edges (now (a .positions)) (now (a .values)) (p .0 .0) (a .first) (a .stride) (a .at) (a .end) (length (now (a .t))) (p .0 .1) (a .i) (p .1 .0) (p .1 .1)
 
 -- the first is no further than the last
 order : (c : tie.Start) → c .args .at * c .args .stride ≤ (c .args .end - 1) * c .args .stride
 order c = mul-le-mul-right (c .args .stride) (omega (arith, c .pre .0 .1 .some))
 
-low : (c : tie.Start) → c .args .base + c .args .at * c .args .stride ≤ 33554432
+low : (c : tie.Start) → c .args .first + c .args .at * c .args .stride ≤ 134217728
 low c =
     let a = c .args in
-    run-low (now (a .positions)) (a .base) (a .stride) (a .at) (a .end) (length (now (a .t))) (c .pre .0 .1)
+    run-low (now (a .positions)) (a .first) (a .stride) (a .at) (a .end) (length (now (a .t))) (c .pre .0 .1)
 
 mul-a : tie.Need-mul-a
 mul-a c = search needs
@@ -73,9 +73,6 @@ mul-x c = omega (arith, low (c .before .before .before .before .before .before .
 add-x : tie.Need-add-x
 add-x c = omega (arith, low (c .before .before .before .before .before .before .before))
 
-add-x-2 : tie.Need-add-x-2
-add-x-2 c = omega (arith, low (c .before .before .before .before .before .before .before))
-
 sub-x : tie.Need-sub-x
 sub-x c = ends (c .before .before .before .before .before .before .before) .0
 
@@ -88,7 +85,7 @@ fill-gap-requires c κs =
     let h = p .0 .0 in
     let e = ends s in
     let o = order s in
-    let sp = spans (now (a .positions)) (now (a .values)) (p .0 .0) (a .base) (a .stride) (a .at) (a .end) (length (now (a .t))) (p .0 .1) (a .i) (p .1 .0) (p .1 .1) in (
+    let sp = spans (now (a .positions)) (now (a .values)) (p .0 .0) (a .first) (a .stride) (a .at) (a .end) (length (now (a .t))) (p .0 .1) (a .i) (p .1 .0) (p .1 .1) in (
       (omega arith, r .within, r .few),
       (omega arith, h .small, record { some = omega arith; small = omega arith; stride = omega arith; within = omega arith }, sp),
     )
@@ -102,7 +99,7 @@ returns-3 c =
     let a = s .args in
     let p = s .pre in
     stored-same _ _ (a .at) (a .end) (now (a .t)) _
-    (walked-entry (now (a .positions)) (now (a .values)) (p .0 .0) (a .base) (a .stride) (a .at) (a .end) (length (now (a .t))) (p .0 .1) (a .i) (p .1 .0) (p .1 .1))
+    (walked-entry (now (a .positions)) (now (a .values)) (p .0 .0) (a .first) (a .stride) (a .at) (a .end) (length (now (a .t))) (p .0 .1) (a .i) (p .1 .0) (p .1 .1))
     (c .before .before .fill-gap .ensures)
 
 pub fill-between-spec : {M : Type 1} → statement M
@@ -124,7 +121,6 @@ fill-between-spec =
     cast-x
     mul-x
     add-x
-    add-x-2
     sub-x
     fill-gap-requires
     same-length-3

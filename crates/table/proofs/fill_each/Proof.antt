@@ -11,11 +11,11 @@ use Rattle.table.proofs.fill_each.Statement.{statement}
 use Rattle.table.proofs.fill_each.Tie as tie
 
 abbrev Inv-loop : tie.InvT-loop
-Inv-loop t₀ at end positions values base stride k₀ t k =
-    Stored (entryAt positions values base stride) at k t₀ t × (at ≤ k) × (k ≤ end) × (length t ≡ length t₀)
+Inv-loop t₀ at end positions values first stride k₀ t k =
+    Stored (entryAt positions values first stride) at k t₀ t × (at ≤ k) × (k ≤ end) × (length t ≡ length t₀)
 
 abbrev μ-loop : tie.MeasureT-loop
-μ-loop t₀ at end positions values base stride k₀ t k = end - k
+μ-loop t₀ at end positions values first stride k₀ t k = end - k
 
 loop-holds : tie.Need-loop-holds Inv-loop μ-loop
 loop-holds c = (stored-none _ (c .before .before .before .args .at) (now (c .before .before .before .args .t)), omega arith, omega arith, refl)
@@ -25,7 +25,7 @@ cast-color-of c = omega arith
 
 -- an entry's location is before the table's end
 inside : (c : tie.In-loop Inv-loop μ-loop)
-    → c .before .before .before .before .before .args .base + c .before .loop .k * c .before .before .before .before .before .args .stride ≤ 33554432
+    → c .before .before .before .before .before .args .first + c .before .loop .k * c .before .before .before .before .before .args .stride ≤ 134217728
 inside c =
     let a = c .before .before .before .before .before .args in
     let m : c .before .loop .k * a .stride ≤ length (now (a .t)) * a .stride = mul-le-mul-right (a .stride) (omega arith) in
@@ -43,7 +43,7 @@ cast-color-of-2 c = omega (arith, inside c)
 color-of-requires : tie.Need-color-of-requires Inv-loop μ-loop
 color-of-requires c κs =
     let s = c .before .before .before .before .before in
-    (s .pre .0, omega (arith, inside c))
+    s .pre .0
 
 mul-t : tie.Need-mul-t Inv-loop μ-loop
 mul-t c = omega arith

@@ -14,12 +14,12 @@ use Rattle.table.proofs.fill_spaced.Statement.{statement}
 use Rattle.table.proofs.fill_spaced.Tie as tie
 
 abbrev Inv-loop : tie.InvT-loop
-Inv-loop t₀ positions values base stride n first limit k₀ place₀ t k place =
-    Stored (entryAt positions values base stride) 0 k t₀ t × (k ≤ n) × (length t ≡ length t₀) × (place ≤ length positions)
+Inv-loop t₀ positions values first stride n limit k₀ place₀ t k place =
+    Stored (entryAt positions values first stride) 0 k t₀ t × (k ≤ n) × (length t ≡ length t₀) × (place ≤ length positions)
     × ((i : ℕ) → i < place → getD positions i 0 ≤ first + k * stride)
 
 abbrev μ-loop : tie.MeasureT-loop
-μ-loop t₀ positions values base stride n first limit k₀ place₀ t k place = n - k
+μ-loop t₀ positions values first stride n limit k₀ place₀ t k place = n - k
 
 -- the locations left
 ahead : (c : tie.In-loop Inv-loop μ-loop) → c .before .loop .k * c .before .before .before .before .before .args .stride + c .before .before .before .before .before .args .stride ≤ length (now (c .before .before .before .before .before .args .t)) * c .before .before .before .before .before .args .stride
@@ -28,11 +28,11 @@ ahead c =
     let m : (c .before .loop .k + 1) * a .stride ≤ length (now (a .t)) * a .stride = mul-le-mul-right (a .stride) (omega arith) in
     omega arith
 
-past : (c : tie.After-run-end Inv-loop μ-loop) → 33554432 + c .before .before .before .before .before .before .before .args .base + c .before .before .before .loop .k * c .before .before .before .before .before .before .before .args .stride < c .run-end .result
+past : (c : tie.After-run-end Inv-loop μ-loop) → c .before .before .before .before .before .before .before .args .first + c .before .before .before .loop .k * c .before .before .before .before .before .before .before .args .stride < c .run-end .result
 past c = c .run-end .ensures .past _ (omega (arith, ahead (c .before .before), c .before .before .before .before .before .before .before .pre .1)) (c .before .place-above .ensures .above)
 
 run : (c : tie.After-entries-in Inv-loop μ-loop)
-    → Run (now (c .before .before .before .before .before .before .before .before .args .positions)) (c .before .before .before .before .before .before .before .before .args .base) (c .before .before .before .before .before .before .before .before .args .stride) (c .before .before .before .before .loop .k) (c .entries-in .result) (length (c .before .before .before .before .loop .t))
+    → Run (now (c .before .before .before .before .before .before .before .before .args .positions)) (c .before .before .before .before .before .before .before .before .args .first) (c .before .before .before .before .before .before .before .before .args .stride) (c .before .before .before .before .loop .k) (c .entries-in .result) (length (c .before .before .before .before .loop .t))
 run c =
     let s = c .before .before .before .before .before .before .before .before in
     let a = s .args in
@@ -40,11 +40,8 @@ run c =
     let r = c .before .run-end .ensures in
     let e : length (l .t) ≡ length (now (a .t)) = l .inv .2 in
     let m : length (l .t) * a .stride ≡ length (now (a .t)) * a .stride = ap (λ (z : ℕ). z * a .stride) e in
-    run-is (now (a .positions)) (a .base) (a .stride) (l .k) (length (l .t)) (c .before .run-end .result) _ (s .pre .1) (omega (arith, s .pre .3)) (omega (arith, s .pre .2)) (past (c .before))
+    run-is (now (a .positions)) (a .first) (a .stride) (l .k) (length (l .t)) (c .before .run-end .result) _ (s .pre .1) (omega (arith, s .pre .3)) (omega (arith, s .pre .2)) (past (c .before))
     (omega (arith, r .within)) (splits-clear (now (a .positions)) _ _ (s .pre .0 .rising) (c .before .before .place-above .ensures) _ _ r) (c .entries-in .ensures)
-
-add-first : tie.Need-add-first Inv-loop μ-loop
-add-first c = omega arith
 
 cast-limit : tie.Need-cast-limit Inv-loop μ-loop
 cast-limit c = omega arith
@@ -92,9 +89,7 @@ fill-run-requires : tie.Need-fill-run-requires Inv-loop μ-loop
 fill-run-requires c κs =
     let s = c .before .before .before .before .before .before .before .before .before in
     let a = s .args in
-    let k = c .before .before .before .before .before .loop .k in
-    let e : 33554432 + a .base + k * a .stride ≡ 33554432 + (a .base + k * a .stride) = omega arith in
-    (s .pre .0, run (c .before), rw e at (splits-last (now (a .positions)) _ _ (s .pre .0 .rising) (c .before .before .before .place-above .ensures)))
+    (s .pre .0, run (c .before), splits-last (now (a .positions)) _ _ (s .pre .0 .rising) (c .before .before .before .place-above .ensures))
 
 loop-less : tie.Need-loop-less Inv-loop μ-loop
 loop-less c = omega (arith, run (c .before .before .before .before) .some)
@@ -128,7 +123,6 @@ fill-spaced-spec =
     (tie.spec
     Inv-loop
     μ-loop
-    add-first
     cast-limit
     mul-limit
     add-limit

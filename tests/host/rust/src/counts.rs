@@ -4,9 +4,11 @@ use std::collections::BTreeMap;
 
 use crate::expected::needed;
 use crate::library::{Call, Export, EXPORTS};
+use crate::repeat_counts::RepeatCounts;
 use crate::strip_counts::StripCounts;
 
-const CLAUSES: [&str; 46] = [
+const CLAUSES: [&str; 48] = [
+    "repeating line", "repeating circle",
     "no direction", "side", "corner, horizontal word first", "corner, vertical word first",
     "angle", "angle below 0", "angle above 360",
     "circle alone", "closest-side", "closest-corner", "farthest-side", "farthest-corner",
@@ -27,6 +29,7 @@ const REPLIES: [usize; 8] = [0, 1, 2, 3, 4, 5, 6, 8];
 pub struct Counts {
     replies: [[u64; 9]; EXPORTS.len()],
     pub strips: StripCounts,
+    repeats: RepeatCounts,
     pixels: u64,
     pub texts: u64,
     clauses: BTreeMap<&'static str, u64>,
@@ -46,14 +49,15 @@ fn replies_of(export: Export) -> &'static [usize] {
 impl Counts {
     pub fn new() -> Counts {
         let clauses = CLAUSES.iter().map(|name| (*name, 0)).collect();
-        let strips = StripCounts::new();
-        Counts { replies: [[0; 9]; EXPORTS.len()], strips, pixels: 0, texts: 0, clauses, bytes: [false; 256] }
+        let (strips, repeats) = (StripCounts::new(), RepeatCounts::new());
+        Counts { replies: [[0; 9]; EXPORTS.len()], strips, repeats, pixels: 0, texts: 0, clauses, bytes: [false; 256] }
     }
 
     pub fn call(&mut self, call: &Call, reply: u32) {
         self.replies[call.export as usize][reply as usize] += 1;
         if reply == 0 && call.export.draws() {
             self.pixels += (call.area.0 * (call.rows.1 - call.rows.0)) as u64;
+            self.repeats.call(call);
         }
         if reply == 0 && call.export.draws() && call.area == (2048, 2048) && call.rows == (0, 2048) {
             self.clause("whole picture of 2,048 by 2,048");
@@ -111,6 +115,7 @@ impl Counts {
             println!("  {:<40}{:>9}", name, self.clauses[name]);
         }
         self.strips.print();
+        self.repeats.print();
     }
 
     /// The replies and clauses that the run should have reached and has not.
@@ -126,6 +131,7 @@ impl Counts {
         let clauses = CLAUSES.iter().filter(|name| self.clauses[**name] == 0);
         list.extend(clauses.map(|name| name.to_string()));
         list.extend(self.strips.missing());
+        list.extend(self.repeats.missing());
         list
     }
 }

@@ -5,11 +5,12 @@ use crate::spelling::WHITE;
 use crate::texts::grammatical;
 
 const TEMPTING: &[u8] = b"(),,#%.+-0123456789 \t\n\r\x0c\x0b\x00\x85\xa0pxdegtorlabcf[]{}@`/*";
-const WORDS: [&str; 40] = [
-    "linear-gradient(", "radial-gradient(", "repeating-linear-gradient(", "to", "at", "left", "right", "top",
-    "bottom", "center", "circle", "ellipse", "closest-side", "closest-corner", "farthest-side", "farthest-corner",
-    "red", "blue", "transparent", "grey", "gray", "#123", "#12345", "#12345678", "#abcg", "0", "-0.0", "5", "5px",
-    "5.px", ".5px", "1.2345px", "10%", "+10.5%", "45deg", "0deg", "45.1deg", "1e2px", ",", ")",
+const WORDS: [&str; 42] = [
+    "linear-gradient(", "radial-gradient(", "repeating-linear-gradient(", "repeating-radial-gradient(",
+    "repeating-", "to", "at", "left", "right", "top", "bottom", "center", "circle", "ellipse", "closest-side",
+    "closest-corner", "farthest-side", "farthest-corner", "red", "blue", "transparent", "grey", "gray", "#123",
+    "#12345", "#12345678", "#abcg", "0", "-0.0", "5", "5px", "5.px", ".5px", "1.2345px", "10%", "+10.5%",
+    "45deg", "0deg", "45.1deg", "1e2px", ",", ")",
 ];
 
 /// Any text: most from the grammar, the rest damaged, mixed from words, or of a special length.
@@ -104,7 +105,7 @@ fn change_words(chance: &mut Chance, text: &mut Vec<u8>) {
 }
 
 fn from_words(chance: &mut Chance) -> Vec<u8> {
-    let mut text = chance.pick(&WORDS[..2]).as_bytes().to_vec();
+    let mut text = chance.pick(&WORDS[..4]).as_bytes().to_vec();
     for _ in 0..chance.below(12) {
         text.extend_from_slice(chance.pick(&WORDS).as_bytes());
         text.extend_from_slice(chance.pick(&[" ", ",", ", ", ""]).as_bytes());

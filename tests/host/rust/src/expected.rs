@@ -53,7 +53,7 @@ fn placed(gradient: &Gradient, area: (usize, usize)) -> Answer {
 }
 
 fn drawn(gradient: &Gradient, stops: &[Placed], area: (usize, usize)) -> Answer {
-    Ok(picture(&Grid::new(&gradient.shape, area), stops))
+    Ok(picture(&Grid::new(&gradient.shape, area), gradient.repeating, stops))
 }
 
 /// The file of a picture that was drawn.
@@ -96,7 +96,7 @@ pub fn strip(export: Export, first: &[u8], area: (usize, usize), rows: Rows) -> 
         true => read(first)?.gradient,
         false => take_gradient(first)?,
     };
-    Ok(rows_of(&Grid::new(&gradient.shape, area), &place(&gradient, area), rows))
+    Ok(rows_of(&Grid::new(&gradient.shape, area), gradient.repeating, &place(&gradient, area), rows))
 }
 
 /// The reply with this much lent, and the bytes that come before the zeros.

@@ -38,6 +38,7 @@ pub enum Shape {
 
 #[derive(Clone, PartialEq, Debug)]
 pub struct Gradient {
+    pub repeating: bool,
     pub shape: Shape,
     pub stops: Vec<Stop>,
 }

@@ -78,6 +78,7 @@ fn get_shape(bytes: &[u8]) -> Shape {
 pub fn gradient_bytes(gradient: &Gradient) -> Vec<u8> {
     let mut bytes = vec![0; GRADIENT_BYTES];
     put(&mut bytes, 0, gradient.stops.len() as i64);
+    put(&mut bytes, 8, i64::from(gradient.repeating));
     put_shape(&mut bytes, &gradient.shape);
     for (k, stop) in gradient.stops.iter().enumerate() {
         let at = 64 + 16 * k;
@@ -103,7 +104,7 @@ pub fn take_gradient(bytes: &[u8]) -> Result<Gradient, u32> {
     let count = get(bytes, 0) as u32 as usize;
     let held = count.min(MOST_STOPS);
     let stops = (0..held).map(|k| get_stop(bytes, 64 + 16 * k)).collect();
-    let gradient = Gradient { shape: get_shape(bytes), stops };
+    let gradient = Gradient { repeating: get(bytes, 8) != 0, shape: get_shape(bytes), stops };
     if count < 2 || gradient_bytes(&gradient)[4..] != bytes[4..] {
         return Err(4);
     }

@@ -7,7 +7,10 @@ use crate::layout::{FURTHEST, GRADIENT_BYTES, STOPS_BYTES};
 use crate::placing::Placed;
 
 const HEADER_WORDS: usize = 16;
-const RESERVED: [usize; 5] = [8, 32, 36, 48, 60];
+const RESERVED: [usize; 4] = [32, 36, 48, 60];
+const REPEATING: usize = 8;
+/// Words for a field that is 0 or 1.
+pub const FLAGS: [u32; 10] = [0, 1, 2, 3, 255, 256, 257, 65_536, 0x8000_0001, u32::MAX];
 const COUNTS: [u32; 12] = [0, 1, 2, 3, 15, 16, 17, 18, 255, 256 + 3, 0x8000_0002, u32::MAX];
 
 fn color(chance: &mut Chance) -> [u8; 4] {
@@ -53,6 +56,36 @@ fn shape(chance: &mut Chance) -> Shape {
     }
 }
 
+/// The first place and the last one of stops that may repeat, `unit` to a pixel and not beyond `most`: a period of many
+/// sizes, beginning before the box, in it or past it.
+pub fn ends(chance: &mut Chance, unit: i64, most: i64) -> (i64, i64) {
+    let first = match chance.below(20) {
+        0..=5 => 0,
+        6 => -most,
+        7 => most - chance.between(0, 3 * unit),
+        8..=9 => -chance.between(1, 40 * unit),
+        10..=11 => -chance.between(1, most),
+        12..=13 => chance.between(2100, 8000) * unit,
+        14..=15 => -chance.between(60, 8000) * unit,
+        16..=17 => chance.between(-30, 30) * unit,
+        _ => chance.between(0, 30 * unit),
+    };
+    let smallest = (unit + 63) / 64;
+    let period = match chance.below(12) {
+        0 | 1 => 0,
+        2 => smallest,
+        3 => chance.between(2, 63) * smallest,
+        4 => unit,
+        5 => chance.between(2, 12) * unit,
+        6 => 40 * unit,
+        7 => chance.between(100, 3000) * unit,
+        8 => most,
+        9 => chance.between(1, most),
+        _ => chance.between(1, 30 * unit),
+    };
+    (first, (first + period).min(most))
+}
+
 /// A gradient that no text needs to have said.
 pub fn random_gradient(chance: &mut Chance) -> Gradient {
     let count = 2 + chance.below(15);
@@ -61,14 +94,30 @@ pub fn random_gradient(chance: &mut Chance) -> Gradient {
         let position = if chance.one_in(3) { None } else { Some(amount(chance)) };
         stops.push(Stop { color: color(chance), position });
     }
-    Gradient { shape: shape(chance), stops }
+    let repeating = chance.one_in(2);
+    if repeating && !chance.one_in(3) {
+        let (first, last) = ends(chance, 1000, LENGTH_LIMIT);
+        for stop in &mut stops {
+            stop.position = (!chance.one_in(3)).then(|| Amount::Length(chance.between(first, last)));
+        }
+        stops[0].position = Some(Amount::Length(first));
+        stops[count - 1].position = Some(Amount::Length(last));
+    }
+    Gradient { repeating, shape: shape(chance), stops }
 }
 
-/// Stops in their order, near the start of the line or anywhere in the range.
+/// Stops in their order, near the start of the line or anywhere in the range, or with a period of some size.
 pub fn random_stops(chance: &mut Chance) -> Vec<Placed> {
     let count = 2 + chance.below(15);
     let reach = *chance.pick(&[100, 3000, FURTHEST]);
     let mut places: Vec<i64> = (0..count).map(|_| chance.between(-reach / 4, reach)).collect();
+    if chance.one_in(2) {
+        let (first, last) = ends(chance, 64, FURTHEST);
+        places = (0..count).map(|_| chance.between(first, last)).collect();
+        (places[0], places[count - 1]) = (first, last);
+        places.sort_unstable();
+        return places.iter().map(|at| Placed { color: color(chance), at: *at }).collect();
+    }
     if chance.one_in(4) {
         places[0] = -FURTHEST;
     }
@@ -116,7 +165,7 @@ fn limit(chance: &mut Chance) -> i64 {
 /// One change to a gradient's 320 bytes.
 pub fn damage_gradient(chance: &mut Chance, bytes: &mut Vec<u8>) {
     let place = 64 + 16 * chance.below(16);
-    match chance.below(12) {
+    match chance.below(13) {
         0 | 1 => any_byte(chance, bytes),
         2 => set_word(bytes, *chance.pick(&RESERVED), chance.between(1, 3)),
         3 => set_word(bytes, place + 12, chance.between(-1, 2)),
@@ -126,6 +175,7 @@ pub fn damage_gradient(chance: &mut Chance, bytes: &mut Vec<u8>) {
         8 => set_word(bytes, place + 8, limit(chance)),
         9 => set_word(bytes, place + 4, chance.between(-1, 3)),
         10 => swap(bytes, place, 64 + 16 * chance.below(16), 16),
+        11 => set_word(bytes, REPEATING, i64::from(*chance.pick(&FLAGS))),
         _ => wrong_length(chance, bytes),
     }
     if chance.one_in(40) {

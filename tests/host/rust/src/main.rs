@@ -16,6 +16,8 @@ mod pixels;
 mod placing;
 mod png;
 mod reading;
+mod repeat_counts;
+mod repeats;
 mod report;
 mod sines;
 mod spelling;
@@ -82,8 +84,10 @@ fn run(options: &Options) -> Result<(), String> {
     worked::library(&mut compare)?;
     compare.place.number = 0;
     sweeps::all(&mut compare)?;
+    repeats::flags(&mut compare)?;
     strips::refusals(&mut compare)?;
     strips::large(&mut compare)?;
+    repeats::pictures(&mut compare)?;
     for case in 1..=options.texts {
         random_text(&mut compare, case)?;
     }

@@ -10,7 +10,7 @@ use crate::strips;
 
 const FULL: (usize, usize) = (2048, 2048);
 
-const PICTURES: [(&str, Export, (usize, usize)); 17] = [
+const PICTURES: [(&str, Export, (usize, usize)); 25] = [
     ("linear-gradient(37.25deg, red, white 30%, blue)", Export::Draw, FULL),
     ("linear-gradient(to top left, black, white)", Export::Draw, FULL),
     ("linear-gradient(to left, #f008, lime 20%, transparent)", Export::Draw, FULL),
@@ -30,6 +30,14 @@ const PICTURES: [(&str, Export, (usize, usize)); 17] = [
     ("linear-gradient(200.5deg, #f008, #0f0c 40%, transparent 70%, blue)", Export::Png, FULL),
     ("radial-gradient(circle at 30.3% 41.7%, #fff0, #0008 30%, #ffff 61%)", Export::Png, FULL),
     ("linear-gradient(to right, transparent, #12345678)", Export::Png, (2047, 1033)),
+    ("repeating-linear-gradient(37.25deg, red -3px, white 10px, #00f8 40.5px)", Export::Draw, FULL),
+    ("repeating-linear-gradient(to left, black, white 1px, red 1px, lime 2.5px)", Export::DrawGradient, FULL),
+    ("repeating-linear-gradient(to bottom right, black 5000px, white 5000.016px, red 5000.3px)", Export::Draw, FULL),
+    ("repeating-radial-gradient(circle at 30% 70.5px, red, #0007 8px, yellow 20px)", Export::DrawGradient, FULL),
+    ("repeating-radial-gradient(700.125px at 1000% -8192px, silver -3px, #8001 11%, purple)", Export::Draw, FULL),
+    ("repeating-radial-gradient(circle, black -0.016px, white 0px, red 0.5px)", Export::DrawStops, FULL),
+    ("repeating-linear-gradient(12deg, red 7px, #0f08 7px, blue 3px)", Export::Draw, FULL),
+    ("repeating-linear-gradient(200.5deg, #f008 -8192px, #0f0c -8000px, transparent -7900px)", Export::Png, FULL),
 ];
 
 pub fn all(compare: &mut Compare) -> Result<(), String> {

@@ -46,17 +46,24 @@ fn item(text: &[u8]) -> Option<Item> {
 fn parse(text: &[u8]) -> Option<Reading> {
     let (name, items) = take_apart(text)?;
     let mut clauses = Vec::new();
-    let (shape, rest) = match name.as_slice() {
+    let (repeating, kind) = match name.strip_prefix(b"repeating-") {
+        Some(kind) => (true, kind),
+        None => (false, name.as_slice()),
+    };
+    let (shape, rest) = match kind {
         b"linear-gradient" => linear(&items, &mut clauses),
         b"radial-gradient" => (circle(&items[0], &mut clauses)?, &items[1..]),
         _ => return None,
     };
+    if repeating {
+        clauses.push(if kind == b"linear-gradient" { "repeating line" } else { "repeating circle" });
+    }
     let stops: Option<Vec<Stop>> = rest.iter().map(|words| stop(words, &mut clauses)).collect();
     let stops = stops?;
     if stops.len() == MOST_STOPS {
         clauses.push("16 stops");
     }
-    (stops.len() >= 2).then_some(Reading { gradient: Gradient { shape, stops }, clauses })
+    (stops.len() >= 2).then_some(Reading { gradient: Gradient { repeating, shape, stops }, clauses })
 }
 
 fn linear<'a>(items: &'a [Item], clauses: &mut Vec<&'static str>) -> (Shape, &'a [Item]) {

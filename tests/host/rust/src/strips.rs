@@ -231,7 +231,7 @@ fn refused_gradient(chance: &mut Chance, list: &[u32]) -> Vec<u8> {
         _ if !list.contains(&4) => {}
         0 => bytes.push(0),
         1 => bytes.truncate(319),
-        _ => bytes[8] = 1,
+        _ => bytes[8] = 2,
     }
     bytes
 }

@@ -4,10 +4,12 @@ use crate::cases::{exact_case, read_case};
 use crate::compare::Compare;
 use crate::library::Export;
 
-const BASES: [&[u8]; 3] = [
+const BASES: [&[u8]; 5] = [
     b"linear-gradient(to left,red 5px,#Fff 7%)",
     b"radial-gradient(circle 9px at top,lime,#0a0b)",
     b"linear-gradient(-0.25deg, olive 0,navy)",
+    b"repeating-linear-gradient(red,#0F0 5px)",
+    b"Repeating-Radial-Gradient(9px,lime,navy 8%)",
 ];
 
 pub fn all(compare: &mut Compare) -> Result<(), String> {
@@ -65,7 +67,10 @@ const VOCABULARY: [&str; 21] = [
 /// Up to three words at each place before the stops.
 fn words(compare: &mut Compare) -> Result<(), String> {
     compare.place.part = "sweep of words, text";
-    let starts = ["linear-gradient(", "linear-gradient(to ", "radial-gradient(", "radial-gradient(circle at "];
+    let starts = [
+        "linear-gradient(", "linear-gradient(to ", "radial-gradient(", "radial-gradient(circle at ",
+        "repeating-linear-gradient(", "repeating-radial-gradient(circle at ",
+    ];
     for a in VOCABULARY {
         for b in VOCABULARY {
             for c in VOCABULARY {

@@ -1,6 +1,8 @@
 //! Texts made from the grammar.
 
 use crate::chance::Chance;
+use crate::gradient::LENGTH_LIMIT;
+use crate::layouts::ends;
 use crate::spelling::Spelling;
 
 const SIDES: [&str; 4] = ["left", "right", "top", "bottom"];
@@ -12,6 +14,10 @@ const EXTENTS: [&str; 4] = ["closest-side", "closest-corner", "farthest-side", "
 pub fn grammatical(chance: &mut Chance) -> Vec<u8> {
     let mut text = Spelling::new(chance);
     text.maybe_white();
+    let repeating = text.chance.one_in(2);
+    if repeating {
+        text.word("repeating-");
+    }
     if text.chance.one_in(2) {
         text.word("linear-gradient");
         open(&mut text);
@@ -25,7 +31,10 @@ pub fn grammatical(chance: &mut Chance) -> Vec<u8> {
         circle(&mut text);
         comma(&mut text);
     }
-    stops(&mut text);
+    match repeating && !text.chance.one_in(3) {
+        true => periodic_stops(&mut text),
+        false => stops(&mut text),
+    }
     text.maybe_white();
     text.raw(")");
     text.maybe_white();
@@ -144,5 +153,25 @@ fn stops(text: &mut Spelling) {
             text.gap();
             text.amount();
         }
+    }
+}
+
+/// Stops from one length to another: a period of some size.
+fn periodic_stops(text: &mut Spelling) {
+    let count = how_many(text.chance);
+    let (first, last) = ends(text.chance, 1000, LENGTH_LIMIT);
+    for k in 0..count {
+        if k > 0 {
+            comma(text);
+        }
+        text.color();
+        let at = match k {
+            0 => first,
+            _ if k + 1 == count => last,
+            _ if text.chance.one_in(2) => continue,
+            _ => text.chance.between(first, last),
+        };
+        text.gap();
+        text.number(at, "px");
     }
 }

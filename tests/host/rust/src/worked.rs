@@ -16,11 +16,33 @@ use crate::strips;
 const GRAYS: [u8; 16] = [32, 32, 32, 255, 96, 96, 96, 255, 159, 159, 159, 255, 223, 223, 223, 255];
 
 /// Charts with all their bytes.
-const DRAWN: [(&str, &str, Area, &[u8]); 3] = [
+const DRAWN: [(&str, &str, Area, &[u8]); 12] = [
     ("P1", "linear-gradient(to right, black, white)", (4, 1), &GRAYS),
     ("P2", "linear-gradient(to right, red, transparent)", (2, 1), &[191, 0, 0, 191, 64, 0, 0, 64]),
     ("P9", "radial-gradient(circle at 0.5px 0.5px, red -50px, yellow 100px)", (1, 1), &[255, 85, 0, 255]),
+    // document 02's own case
+    ("T-01", "repeating-linear-gradient(red 0, white 0, blue 0)", (1, 1), &[191, 128, 191, 255]),
+    // 32 and 96 of 128 units, twice: 63.75 and 191.25
+    ("two periods", "repeating-linear-gradient(to right, black, white 2px)", (4, 1), &TWICE),
+    // the second pixel lies at 96, where the last stop meets the first: black is never reached
+    ("a seam on a pixel", "repeating-linear-gradient(to right, #f00 -1.5px, #000 1.5px)", (2, 1), &SEAM),
+    ("before the box", "repeating-linear-gradient(90deg, red -3px, red -2px, blue -2px, blue -1px)", (2, 1), &BARS),
+    ("past the box", "repeating-linear-gradient(90deg, red 9px, red 10px, blue 10px, blue 11px)", (2, 1), &BARS),
+    // every location is moved to the first stop's
+    ("a period of one unit", "repeating-linear-gradient(90deg, red, lime 0.008px, blue 0.016px)", (2, 1), &RED),
+    // 127.5 of red and of alpha
+    ("one transparent color", "repeating-radial-gradient(0px, red, #0f00)", (1, 1), &[128, 0, 0, 128]),
+    // (255 + 2 * 0 + 2 * 51 + 255) / 6 is 102, and (0 + 2 * 0 + 2 * 51 + 0) / 6 is 17
+    ("one of four", "repeating-linear-gradient(#f00 5px, #000 4px, #333 3px, #f00 2px)", (1, 1), &[102, 17, 17, 255]),
+    // 45 units from the center, and 101, which is 5 more than two periods of 48: 239.06 and 26.56
+    ("rings", "repeating-radial-gradient(circle at 0 0, black, white 0.75px)", (2, 1), &RINGS),
 ];
+
+const TWICE: [u8; 16] = [64, 64, 64, 255, 191, 191, 191, 255, 64, 64, 64, 255, 191, 191, 191, 255];
+const SEAM: [u8; 8] = [85, 0, 0, 255, 255, 0, 0, 255];
+const BARS: [u8; 8] = [0, 0, 255, 255, 255, 0, 0, 255];
+const RED: [u8; 8] = [255, 0, 0, 255, 255, 0, 0, 255];
+const RINGS: [u8; 8] = [239, 239, 239, 255, 27, 27, 27, 255];
 
 /// Charts with the places of their stops.
 const PLACED: [(&str, &str, Area, &[i64]); 13] = [
@@ -68,6 +90,14 @@ fn replies() -> Vec<(String, Area, usize, u32)> {
         list("linear-gradient(red 8192px, blue)", 0),
         list("linear-gradient(red 8192.001px, blue)", 5),
         list("linear-gradient(45.1deg, red, blue)", 5),
+        list("RePeAtInG-linear-gradient(red, blue)", 0),
+        list("repeating-linear-gradient(red)", 4),
+        list("repeating- linear-gradient(red, blue)", 4),
+        list("repeating-repeating-linear-gradient(red, blue)", 4),
+        list("repeating-radial-gradient(red, blue 5px)", 4),
+        list("repeating-radial-gradient(-1px, red, blue 5px)", 5),
+        list(&format!("repeating-linear-gradient({SIXTEEN})"), 0),
+        list(&format!("repeating-linear-gradient({SIXTEEN},red)"), 6),
         list(&format!("linear-gradient({SIXTEEN})"), 0),
         list(&format!("linear-gradient({SIXTEEN},red)"), 6),
         list(&format!("linear-gradient({SIXTEEN},red 9000px)"), 5),

@@ -1,0 +1,116 @@
+-- The colors of repeated stops are those of the moved locations, and come again after whole periods.
+-- Assumes nothing.
+use mathlib.Core.Path.{_≡_, refl, sym, ap, ap₂, _∙_}
+use mathlib.Core.List.{List, _++_}
+use Prim.Native.Nat.{ℕ, zero, suc, _+_, _-_, _*_, _/_, _%_, _≤_, _<_}
+use native.Mathlib.Nat.{mul-le-mul-right, div-mul-le-self, lt-div-mul-add, lt-of-mul-lt-mul-right}
+use native.Mathlib.Omega.{arith}
+use lib.IntN.{ℤ, pos, subℕ}
+use lib.ListN.{length, getD, set, take, List·getD-append}
+use lib.Seq.{getD-set-same, getD-set-other, getD-take, getD-append-add, length-take-le}
+use native.Mathlib.Decide.{decLe}
+use Rattle.numbers.specs.Biased.{bias, unbiased}
+use Rattle.numbers.proofs.Integers.{biased-count}
+use Rattle.color.specs.Stop.{Stop, noStop}
+use Rattle.color.specs.Byte.{units, bytes, colorAt}
+use Rattle.color.specs.Lent.{Lent, stopsOf, movedBiased}
+use Rattle.color.specs.Paint.{repeated, firstOf, lastOf, periodOf, movedTo, moved, paintAt}
+use Rattle.color.proofs.Gap.{biased-units}
+use Rattle.color.proofs.Lent.{stop, length-stops}
+use Rattle.color.proofs.Moves.{moved-biased, moved-along, moved-again}
+use Rattle.words.specs.Word.{wordBytes}
+use Rattle.table.specs.Table.{packed, entryOf, entryAt, Stored}
+use Rattle.table.proofs.Packing.{entry-bytes}
+use Rattle.repeats.specs.Repeats.{firstIn, lastIn, Periodic, repeatedOf, movedIn, repeatedAt, Filled}
+
+-- the first and the last position, and the period, of lent stops
+module _ (ps vs : List ℕ) (h : Lent ps vs) where
+  first-is : firstOf (stopsOf ps vs) ≡ unbiased (firstIn ps)
+  first-is = ap (λ (s : Stop). s .position) (stop ps vs h 0 0 (h .some))
+
+  last-is : lastOf (stopsOf ps vs) ≡ unbiased (lastIn ps)
+  last-is =
+      ap (λ (n : ℕ). getD (stopsOf ps vs) (n - 1) noStop .position) (length-stops 0 ps vs)
+      ∙ ap (λ (s : Stop). s .position) (stop ps vs h 0 (length ps - 1) (omega (arith, h .some)))
+
+  pub period-is : firstIn ps ≤ lastIn ps → periodOf (stopsOf ps vs) ≡ lastIn ps - firstIn ps
+  period-is l = ap₂ units first-is last-is ∙ biased-units (firstIn ps) (lastIn ps) bias l
+
+module _ (ps vs : List ℕ) (h : Periodic ps vs) where
+  moved-is : (s : ℕ) → moved (stopsOf ps vs) (pos s) ≡ unbiased (movedIn ps s)
+  moved-is s =
+      let e : firstIn ps + (lastIn ps - firstIn ps) ≡ lastIn ps = omega (arith, h .period) in
+      ap₂ (λ (F : ℤ) (p : ℕ). movedTo F p (pos s)) (first-is ps vs (h .lent)) (period-is ps vs (h .lent) (omega (arith, h .period)))
+      ∙ ap (movedTo (unbiased (firstIn ps)) (lastIn ps - firstIn ps)) (sym (biased-count bias s))
+      ∙ moved-biased bias (firstIn ps) (lastIn ps - firstIn ps) (bias + s) (omega (arith, h .period))
+      ∙ ap (λ (z : ℕ). unbiased (movedBiased (firstIn ps) z (bias + s))) e
+
+  -- the color at a location is that of the stops where it is moved to
+  pub moved-color : (s m : ℕ) → m ≡ movedIn ps s → entryOf ps vs m ≡ repeatedOf ps vs s
+  unfolding entryOf repeatedOf
+  moved-color s m e = ap (λ (z : ℤ). packed (colorAt (stopsOf ps vs) z)) (ap unbiased e ∙ sym (moved-is s))
+
+  pub repeated-bytes : (s : ℕ) → wordBytes (repeatedOf ps vs s) ≡ bytes (paintAt (repeated (stopsOf ps vs)) (pos s))
+  repeated-bytes s =
+      ap wordBytes (sym (moved-color s _ refl)) ∙ entry-bytes ps vs (h .lent) (movedIn ps s)
+      ∙ ap (λ (z : ℤ). bytes (colorAt (stopsOf ps vs) z)) (sym (moved-is s))
+
+  -- .. and so is that of another location as far away from both, in the same period
+  pub along-color : (s m r u : ℕ) → m ≡ movedIn ps s → firstIn ps ≤ u → u < lastIn ps → m + r ≡ u + s → entryOf ps vs u ≡ repeatedOf ps vs r
+  along-color s m r u e lo hi d =
+      moved-color r u (sym (moved-along (firstIn ps) (lastIn ps) (bias + s) (bias + r) u (h .period) lo hi (omega (arith, e))))
+
+  -- entry j of a piece that begins with entry k, which is moved to `at`
+  pub piece-entry : (base s k j at : ℕ) → at ≡ movedIn ps (base + k * s) → firstIn ps ≤ at → at + j * s < lastIn ps → entryAt ps vs at s j ≡ repeatedAt ps vs base s (k + j)
+  piece-entry base s k j at e lo hi = along-color (base + k * s) at (base + (k + j) * s) (at + j * s) e (omega arith) hi (omega arith)
+
+  -- entries that are whole periods apart
+  pub entry-again : (base s q k : ℕ) → q * s % (lastIn ps - firstIn ps) ≡ 0 → repeatedAt ps vs base s (k + q) ≡ repeatedAt ps vs base s k
+  entry-again base s q k e =
+      let i : bias + (base + (k + q) * s) ≡ bias + (base + k * s) + q * s = omega arith in
+      sym (moved-color (base + (k + q) * s) _ refl)
+      ∙ ap (entryOf ps vs) (ap (movedBiased (firstIn ps) (lastIn ps)) i ∙ moved-again (firstIn ps) (lastIn ps) (bias + (base + k * s)) (q * s) (h .period) e)
+      ∙ moved-color (base + k * s) _ refl
+
+-- ---- the entries of a piece that are s units apart, in d units
+pub piece-some : (d s : ℕ) → 0 < s → 0 < d → 0 < (d + (s - 1)) / s
+piece-some d s h k =
+    let hi : d + (s - 1) < (d + (s - 1)) / s * s + s = lt-div-mul-add h in
+    lt-of-mul-lt-mul-right s (omega arith)
+
+pub piece-fits : (d s n : ℕ) → n ≤ (d + (s - 1)) / s → n * s ≤ d + (s - 1)
+piece-fits d s n k =
+    let lo : (d + (s - 1)) / s * s ≤ d + (s - 1) = div-mul-le-self (d + (s - 1)) s in
+    let t : n * s ≤ (d + (s - 1)) / s * s = mul-le-mul-right s k in
+    omega arith
+
+pub piece-within : (d s m : ℕ) → 0 < s → m < (d + (s - 1)) / s → m * s < d
+piece-within d s m h k =
+    let t = piece-fits d s (suc m) k in
+    omega arith
+
+-- one entry more
+pub filled-more : (f : ℕ → ℕ) (t : List ℕ) (k v : ℕ) → ((i : ℕ) → i < k → i < length t → getD t i 0 ≡ f i) → k < length t → v ≡ f k
+    → (i : ℕ) → i < k + 1 → i < length t → getD (set t k v) i 0 ≡ f i
+filled-more f t k v h l e i m n = either (decLe k i)
+  where
+    either : Dec (k ≤ i) → getD (set t k v) i 0 ≡ f i
+    either (yes p) =
+        let q : i ≡ k = omega arith in
+        rw q (getD-set-same t k v 0 l ∙ e)
+    either (no p) = getD-set-other t k i v 0 (λ q. omega arith) ∙ h i (omega arith) n
+
+-- a part of a list that is replaced
+pub stored-part : (f : ℕ → ℕ) (a b : ℕ) (t p rest : List ℕ) → a ≤ length t → length p ≡ b → ((k : ℕ) → k < length p → getD p k 0 ≡ f (a + k))
+    → Stored f a (a + b) t (take a t ++ (p ++ rest))
+stored-part f a b t p rest h o e = record {
+  kept = λ k l. List·getD-append (take a t) (p ++ rest) 0 k (omega (arith, n)) ∙ getD-take a t k 0 l;
+  new = λ k l m.
+      let i : k ≡ length (take a t) + (k - a) = omega (arith, n) in
+      let j : a + (k - a) ≡ k = omega arith in
+      ap (λ (z : ℕ). getD (take a t ++ (p ++ rest)) z 0) i ∙ getD-append-add (take a t) (p ++ rest) (k - a) 0
+      ∙ List·getD-append p rest 0 (k - a) (omega arith) ∙ e (k - a) (omega arith) ∙ ap f j;
+}
+  where
+    n : length (take a t) ≡ a
+    n = length-take-le a t h
