@@ -221,7 +221,7 @@ void report_one_color_heading(struct report *report) {
     json(report, "\n  ]");
     json_list(report, "one_color");
     printf("\nONE COLOR: repeated stops at one place\n");
-    printf("%-30s%16s%17s\n", "", "ns per pixel", "ratio library to");
+    printf("%-30s%16s%19s\n", "", "ns per pixel", "ratio library to");
     printf("%-11s%-14s%5s%8s%8s%8s\n", "box", "direction", "stops", "library", "memset", "memset");
 }
 

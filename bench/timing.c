@@ -1,7 +1,8 @@
 /*
  * Times the library, memset, cairo and Qt on the same pictures, repeated ones beside the same not repeated,
  * the reading of texts, and drawing in strips.
- * They take turns: each round times all of them once, and the least of the rounds is kept for each.
+ * They take turns, in every other round in reverse: each round times all of them once, and the least of the
+ * rounds is kept for each.
  *
  *     timing full|quick COUNTS JSON    COUNTS holds the names of count.c, each with its instructions
  */
@@ -137,9 +138,11 @@ static struct line time_picture(const struct picture *p, int rounds) {
         if (takes_turns(k, p))
             batch[k] = batch_for(painters[k]->draw);
     for (int round = 0; round < rounds; round++)
-        for (int k = 0; k < PAINTERS; k++)
+        for (int turn = 0; turn < PAINTERS; turn++) {
+            int k = round % 2 == 0 ? turn : PAINTERS - 1 - turn;
             if (takes_turns(k, p))
                 line.per_pixel[k] = least_of_round(line.per_pixel[k], painters[k]->draw, batch[k]);
+        }
     for (int k = 0; k < PAINTERS; k++) {
         if (takes_turns(k, p))
             painters[k]->end();

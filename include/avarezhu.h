@@ -33,10 +33,10 @@
 #include <stddef.h>
 #include <stdint.h>
 
-/* The version, as a number that grows (20,100 for 2.1.0) and as a string. With another first number
+/* The version, as a number that grows (20,200 for 2.2.0) and as a string. With another first number
  * some texts are drawn to other bytes: frames that were kept from such a version must be drawn again. */
-#define AVAREZHU_VERSION 20100
-#define AVAREZHU_VERSION_STRING "2.1.0"
+#define AVAREZHU_VERSION 20200
+#define AVAREZHU_VERSION_STRING "2.2.0"
 
 /* A compiler that can warns where a reply is dropped. */
 #if defined(__cplusplus) && __cplusplus >= 201703L
@@ -139,6 +139,12 @@ static inline const char *avarezhu_message(uint32_t reply)
 
 /*
  * Reading: text to gradient.
+ * A text is linear-gradient(..), or radial-gradient(..) with a circle, or one of the two with repeating-
+ * at once before its name:
+ *
+ *     repeating-linear-gradient(to right, black 0px, black 4px, white 4px, white 8px)
+ *     repeating-radial-gradient(circle 16px, black, black 50%, white 50%, white)
+ *
  * Leaves the gradient in 320 bytes. Replies: 0, 2, 3, 4, 5, 6.
  */
 AVAREZHU_REPLY avarezhu_read(const char *text, size_t text_length,
@@ -161,6 +167,10 @@ AVAREZHU_REPLY avarezhu_place_gradient(const uint8_t *gradient, size_t gradient_
  * Drawing: the picture in a box of width by height pixels.
  * Leaves red, green, blue and alpha of each pixel, one byte each, the colors premultiplied by alpha;
  * rows from the top, pixels from the left, no gaps. Replies: 0 to 6; only avarezhu_draw gives 3.
+ *
+ * A repeating gradient shows its stops over and over, both ways along the line: each period goes from the
+ * first stop up to, not including, the last as they are placed. Where all of them are placed at one
+ * position, the whole picture has one color, the average of the stops.
  */
 AVAREZHU_REPLY avarezhu_draw(const char *text, size_t text_length,
                              size_t width, size_t height,
@@ -199,8 +209,8 @@ AVAREZHU_REPLY avarezhu_draw_gradient_rows(const uint8_t *gradient, size_t gradi
 
 /*
  * The whole picture with stops of your own: direction or circle come from the gradient, colors and positions
- * from the stops. The gradient's own stops are judged but not drawn. Both slices are judged, and the
- * lower reply of the two is given.
+ * from the stops. Whether they are repeated the gradient says, too: stops carry no such flag. The gradient's
+ * own stops are judged but not drawn. Both slices are judged, and the lower reply of the two is given.
  */
 AVAREZHU_REPLY avarezhu_draw_stops(const uint8_t *gradient, size_t gradient_length,
                                    const uint8_t *stops, size_t stops_length,
@@ -277,7 +287,7 @@ typedef struct avarezhu_stop {
 typedef struct avarezhu_gradient {
     uint32_t count;      /* of stops, 2 to 16 */
     uint32_t shape;
-    uint32_t repeating;  /* reserved, 0 */
+    uint32_t repeating;  /* 1 if the stops are repeated, else 0 */
     uint32_t direction;  /* linear; 0 in a circle */
     int32_t angle;       /* if direction is AVAREZHU_ANGLE, else 0 */
     uint32_t extent;     /* circle; 0 if the size is a length */

@@ -161,8 +161,8 @@ fn draw_refused_rows() {
     draw_rows(unclosed, 2, 2, 1, 2, 9);
 }
 
-// Gradients that repeat: periods within the box, before it and past it, of a pixel, of a unit and of none.
-fn draw_repeating() {
+// Lines that repeat: periods within the box and before it, of a pixel and of a unit or two.
+fn draw_repeating_lines() {
     draw(
         b"repeating-linear-gradient(to right, black, white 4px)",
         8,
@@ -199,6 +199,10 @@ fn draw_repeating() {
         4,
         64,
     );
+}
+
+// One color, where the period is none.
+fn draw_one_color() {
     draw(
         b"repeating-linear-gradient(red 0, white 0, blue 0)",
         4,
@@ -217,6 +221,9 @@ fn draw_repeating() {
         3,
         36,
     );
+}
+
+fn draw_repeating_circles() {
     draw(
         b"repeating-radial-gradient(circle at 0 0, black, white 2px)",
         4,
@@ -230,6 +237,10 @@ fn draw_repeating() {
         64,
     );
     draw(b"repeating-radial-gradient(1px, aqua, yellow)", 4, 4, 64);
+}
+
+// Bars, periods past the box and of half a pixel, colors that are not opaque.
+fn draw_more_repeating_lines() {
     draw(
         b"repeating-linear-gradient(to left, #f00 50%, #f00 75%, #00f 75%, #00f)",
         8,
@@ -337,7 +348,10 @@ fn main() {
     draw_refused();
     draw_strips();
     draw_refused_rows();
-    draw_repeating();
+    draw_repeating_lines();
+    draw_one_color();
+    draw_repeating_circles();
+    draw_more_repeating_lines();
     draw_repeating_refused();
     draw_repeating_rows();
 }

@@ -30,12 +30,14 @@ use Rattle.color.proofs.Numbers.{length-positions, length-values, stops-of, pos
 use Rattle.words.specs.Word.{wordBytes}
 use Rattle.picture.specs.Picture.{patched}
 use Rattle.picture.proofs.Patches.{patch-here, patch-kept, patch-before, patch-length}
-use Rattle.table.specs.Table.{packed, entryOf}
+use Rattle.table.specs.Table.{packed, entryOf, Stretched}
+use Rattle.table.specs.declared.Stretch.{Stretch}
 use Rattle.table.proofs.Packing.{entry-is, entry-bytes}
 use Rattle.table.proofs.Runs.{rising-le}
+use Rattle.table.proofs.Stretches.{stretched-moved}
 use Rattle.repeats.specs.Repeats.{firstIn, lastIn, Periodic, repeatedOf}
 use Rattle.repeats.proofs.Periods.{period-is, repeated-bytes}
-use Rattle.ramp.specs.Ramp.{positionsIn, valuesIn, stopsIn, repeatsIn, colorIn, Spread, Stops, Holds, Made, Like}
+use Rattle.ramp.specs.Ramp.{positionsIn, valuesIn, stopsIn, repeatsIn, colorIn, Spread, Stops, Holds, Made, Like, Biased}
 
 -- what stands within the first k elements
 inner : {A : Type 0} (n m k : ℕ) (l : List A) → m + n ≤ k → take n (drop m (take k l)) ≡ take n (drop m l)
@@ -124,9 +126,19 @@ pub color-once : (r : List ℕ) → repeatsIn r ≡ false → (s : ℕ) → entr
 unfolding colorIn entryOf
 color-once r e s = rw e (ap (λ (z : ℤ). packed (colorAt (stopsIn r) z)) (biased-count bias s))
 
-pub color-repeated : (r : List ℕ) → repeatsIn r ≡ true → (s : ℕ) → repeatedOf (positionsIn r) (valuesIn r) s ≡ colorIn r s
+pub color-repeated : (r : List ℕ) → repeatsIn r ≡ true → (s : ℕ) → repeatedOf (positionsIn r) (valuesIn r) (bias + s) ≡ colorIn r s
 unfolding colorIn repeatedOf
-color-repeated r e s = rw e
+color-repeated r e s = rw e (ap (λ (z : ℤ). packed (paintAt (repeated (stopsIn r)) z)) (biased-count bias s))
+
+-- .. in a stretch that begins at the location 0 or later
+pub biased-is : (r : List ℕ) (t : Stretch) (f : ℕ → ℕ) → ((s : ℕ) → f (bias + s) ≡ colorIn r s) → Stretched f t → (0 < t .count → bias ≤ t .first) → Biased r t
+biased-is r t f e h low = record { colors = stretched-moved f _ t t refl refl h (h .range) same; low = low }
+  where
+    same : (k : ℕ) → k < t .count → f (t .first + k) ≡ colorIn r (t .first + k - bias)
+    same k l =
+        let w = low (omega arith) in
+        let i : t .first + k ≡ bias + (t .first + k - bias) = omega arith in
+        ap f i ∙ e (t .first + k - bias)
 
 -- their bytes
 once-bytes : (r : List ℕ) → Stops r → repeatsIn r ≡ false → (s : ℕ) → wordBytes (colorIn r s) ≡ bytes (colorAt (stopsIn r) (unbiased (bias + s)))
@@ -265,8 +277,8 @@ module _ (l : List PlacedStop) (q : List ℕ) (h : Holds l q) where
           period = λ _. rw (ep, ev) periodic;
         };
         colors = λ s.
-            ap wordBytes (sym (color-repeated (set q 2 1) flag s)) ∙ repeated-bytes (positionsIn (set q 2 1)) (valuesIn (set q 2 1)) (rw (ep, ev) periodic) s
-            ∙ ap (λ (x : List Stop). bytes (paintAt (repeated x) (pos s))) e
+            ap wordBytes (sym (color-repeated (set q 2 1) flag s)) ∙ repeated-bytes (positionsIn (set q 2 1)) (valuesIn (set q 2 1)) (rw (ep, ev) periodic) (bias + s)
+            ∙ ap₂ (λ (x : List Stop) (z : ℤ). bytes (paintAt (repeated x) z)) e (biased-count bias s)
             ∙ ap (λ (x : Paint). bytes (paintAt x (pos s))) (sym (paint-repeated (map stopOf l) (rw (period (omega arith)) (omega arith))));
       }
     where

@@ -5,7 +5,7 @@
 use mathlib.Core.Path.{_≡_}
 use mathlib.Core.Bool.{Bool, true, false, cond}
 use mathlib.Core.List.{List, map}
-use Prim.Native.Nat.{ℕ, _+_, _*_, _≤_, _<_}
+use Prim.Native.Nat.{ℕ, _+_, _-_, _*_, _≤_, _<_}
 use lib.Dec.{eqb}
 use lib.IntN.{pos}
 use lib.ListN.{length, getD, take, drop}
@@ -94,6 +94,11 @@ pub record Made (p : Paint) (r : List ℕ) : Type 0 where
 -- the stretch t is one of the ramp's
 abbrev pub Held : List ℕ → Stretch → Type 0
 Held r t = Stretched (colorIn r) t
+
+-- .. where its locations are biased
+pub record Biased (r : List ℕ) (t : Stretch) : Type 0 where
+  pub colors : Stretched (λ (at : ℕ). colorIn r (at - bias)) t
+  pub low : 0 < t .count → bias ≤ t .first
 
 -- r is a ramp of the same colors as q
 pub record Like (q r : List ℕ) : Type 0 where

@@ -7,17 +7,15 @@ ghost use mathlib.Core.Bool.{true};
 ghost use mathlib.Core.List.{List, map};
 ghost use Prim.Native.Nat.{ℕ, _+_, _-_, _*_, _≤_, _<_};
 ghost use lib.ListN.{length, getD, take, set};
-ghost use Rattle.numbers.specs.Biased.{bias};
+ghost use Rattle.numbers.specs.Biased.{bias, twiceBias};
 ghost use Rattle.stops.specs.Bytes.{AllBytes};
 ghost use Rattle.stops.specs.Check.{placedOf};
 ghost use Rattle.stops.specs.declared.PlacedStop.{PlacedStop};
 ghost use Rattle.color.specs.Stop.{stopOf};
 ghost use Rattle.color.specs.Paint.{paintOf};
-ghost use Rattle.color.specs.Lent.{Lent};
 ghost use Rattle.color.specs.Numbers.{Lendable};
-ghost use Rattle.table.specs.Table.{entryOf, Stretched};
 ghost use Rattle.walk.specs.Walk.{mostSteps};
-ghost use Rattle.ramp.specs.Ramp.{mostStops, headSize, locationLimit, positionsIn, valuesIn, repeatsIn, tableIn, baseIn, colorIn, Spread, Stops, Ramp, Holds, Made, Like, Held};
+ghost use Rattle.ramp.specs.Ramp.{mostStops, headSize, locationLimit, positionsIn, valuesIn, repeatsIn, tableIn, baseIn, colorIn, Spread, Stops, Ramp, Holds, Made, Like, Held, Biased};
 ghost use Rattle.picture.specs.Picture.{patched};
 
 // The word that is the number of stops.
@@ -66,7 +64,8 @@ fn values(ramp: &[u32]) -> &[u32]
     &ramp[VALUES..e]
 }
 
-fn is_repeated(ramp: &[u32]) -> bool
+// Whether the stops are repeated.
+pub fn is_repeated(ramp: &[u32]) -> bool
     requires { ⌜ Stops (now ramp) ⌝ }
     ensures { λ r. ⌜ r ≡ repeatsIn (now (ramp .entry)) ⌝ }
 {
@@ -104,10 +103,11 @@ pub fn color_by_stops(ramp: &[u32], s: u64) -> u32
     requires { ⌜ Stops (now ramp) × (s < locationLimit) ⌝ }
     ensures { λ r. ⌜ r ≡ colorIn (now (ramp .entry)) s ⌝ }
 {
+    let at = numbers::WIDE_BIAS + s;
     if is_repeated(ramp) {
-        return repeats::color_of(positions(ramp), values(ramp), s);
+        return repeats::color_of(positions(ramp), values(ramp), at);
     }
-    table::color_of(positions(ramp), values(ramp), numbers::WIDE_BIAS + s)
+    table::color_of(positions(ramp), values(ramp), at)
 }
 
 // From the table, or from the stops where the table does not reach.
@@ -123,16 +123,15 @@ pub fn color(ramp: &[u32], s: u64) -> u32
     color_by_stops(ramp, s)
 }
 
-// The stretch of locations that s is in, where the stops are not repeated, or one of no locations.
-fn stretch_once(positions: &[u32], values: &[u32], s: u64) -> Stretch
-    requires { ⌜ Lent (now positions) (now values) ⌝ }
-    ensures { λ t. ⌜ Stretched (λ (l : ℕ). entryOf (now (positions .entry)) (now (values .entry)) (bias + l)) t ⌝ }
+// The stretch that a biased location is in, from the location 0 on, or one of no locations.
+fn biased_stretch(ramp: &[u32], at: u32) -> Stretch
+    requires { ⌜ Stops (now ramp) × (bias ≤ at) × (at ≤ twiceBias) ⌝ }
+    ensures { λ t. ⌜ Biased (now (ramp .entry)) t ⌝ }
 {
-    if FAR <= s {
-        return table::no_stretch();
+    if is_repeated(ramp) {
+        return repeats::stretch_at(positions(ramp), values(ramp), at, numbers::BIAS);
     }
-    let t = table::stretch_at(positions, values, numbers::BIAS + (s as u32), numbers::BIAS);
-    table::moved(t, numbers::WIDE_BIAS, 0)
+    table::stretch_at(positions(ramp), values(ramp), at, numbers::BIAS)
 }
 
 // The stretch of locations that s is in, or one of no locations.
@@ -140,10 +139,11 @@ pub fn stretch_at(ramp: &[u32], s: u64) -> Stretch
     requires { ⌜ Stops (now ramp) ⌝ }
     ensures { λ t. ⌜ Held (now (ramp .entry)) t ⌝ }
 {
-    if is_repeated(ramp) {
-        return repeats::stretch_at(positions(ramp), values(ramp), s);
+    if FAR <= s {
+        return table::no_stretch();
     }
-    stretch_once(positions(ramp), values(ramp), s)
+    let t = biased_stretch(ramp, numbers::BIAS + (s as u32));
+    table::moved(t, numbers::WIDE_BIAS, 0)
 }
 
 // ---- making a ramp
@@ -153,16 +153,11 @@ pub fn fill_spaced(t: &mut [u32], ramp: &[u32], base: u32, stride: u32)
     requires { ⌜ Stops (now ramp) × (0 < stride) × (base + length (now t) * stride ≤ bias) × (length (now t) < mostSteps) ⌝ }
     ensures { λ _. ⌜ Spread (colorIn (now (ramp .entry))) base stride (now (t .exit)) × (length (now (t .exit)) ≡ length (now (t .entry))) ⌝ }
 {
+    let first = numbers::BIAS + base;
     if is_repeated(ramp) {
-        repeats::fill_spaced(t, positions(ramp), values(ramp), base, stride);
+        repeats::fill_spaced(t, positions(ramp), values(ramp), first, stride);
     } else {
-        table::fill_spaced(
-            t,
-            positions(ramp),
-            values(ramp),
-            numbers::BIAS + base,
-            stride,
-        );
+        table::fill_spaced(t, positions(ramp), values(ramp), first, stride);
     }
 }
 

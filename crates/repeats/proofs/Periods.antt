@@ -5,12 +5,11 @@ use mathlib.Core.List.{List, _++_}
 use Prim.Native.Nat.{ℕ, zero, suc, _+_, _-_, _*_, _/_, _%_, _≤_, _<_}
 use native.Mathlib.Nat.{mul-le-mul-right, div-mul-le-self, lt-div-mul-add, lt-of-mul-lt-mul-right}
 use native.Mathlib.Omega.{arith}
-use lib.IntN.{ℤ, pos, subℕ}
-use lib.ListN.{length, getD, set, take, List·getD-append}
+use lib.IntN.{ℤ}
+use lib.ListN.{length, getD, set, take, drop, length-append, length-drop, List·getD-append}
 use lib.Seq.{getD-set-same, getD-set-other, getD-take, getD-append-add, length-take-le}
 use native.Mathlib.Decide.{decLe}
 use Rattle.numbers.specs.Biased.{bias, unbiased}
-use Rattle.numbers.proofs.Integers.{biased-count}
 use Rattle.color.specs.Stop.{Stop, noStop}
 use Rattle.color.specs.Byte.{units, bytes, colorAt}
 use Rattle.color.specs.Lent.{Lent, stopsOf, movedBiased}
@@ -37,40 +36,39 @@ module _ (ps vs : List ℕ) (h : Lent ps vs) where
   period-is l = ap₂ units first-is last-is ∙ biased-units (firstIn ps) (lastIn ps) bias l
 
 module _ (ps vs : List ℕ) (h : Periodic ps vs) where
-  moved-is : (s : ℕ) → moved (stopsOf ps vs) (pos s) ≡ unbiased (movedIn ps s)
-  moved-is s =
+  moved-is : (at : ℕ) → moved (stopsOf ps vs) (unbiased at) ≡ unbiased (movedIn ps at)
+  moved-is at =
       let e : firstIn ps + (lastIn ps - firstIn ps) ≡ lastIn ps = omega (arith, h .period) in
-      ap₂ (λ (F : ℤ) (p : ℕ). movedTo F p (pos s)) (first-is ps vs (h .lent)) (period-is ps vs (h .lent) (omega (arith, h .period)))
-      ∙ ap (movedTo (unbiased (firstIn ps)) (lastIn ps - firstIn ps)) (sym (biased-count bias s))
-      ∙ moved-biased bias (firstIn ps) (lastIn ps - firstIn ps) (bias + s) (omega (arith, h .period))
-      ∙ ap (λ (z : ℕ). unbiased (movedBiased (firstIn ps) z (bias + s))) e
+      ap₂ (λ (F : ℤ) (p : ℕ). movedTo F p (unbiased at)) (first-is ps vs (h .lent)) (period-is ps vs (h .lent) (omega (arith, h .period)))
+      ∙ moved-biased bias (firstIn ps) (lastIn ps - firstIn ps) at (omega (arith, h .period))
+      ∙ ap (λ (z : ℕ). unbiased (movedBiased (firstIn ps) z at)) e
 
   -- the color at a location is that of the stops where it is moved to
-  pub moved-color : (s m : ℕ) → m ≡ movedIn ps s → entryOf ps vs m ≡ repeatedOf ps vs s
+  pub moved-color : (at m : ℕ) → m ≡ movedIn ps at → entryOf ps vs m ≡ repeatedOf ps vs at
   unfolding entryOf repeatedOf
-  moved-color s m e = ap (λ (z : ℤ). packed (colorAt (stopsOf ps vs) z)) (ap unbiased e ∙ sym (moved-is s))
+  moved-color at m e = ap (λ (z : ℤ). packed (colorAt (stopsOf ps vs) z)) (ap unbiased e ∙ sym (moved-is at))
 
-  pub repeated-bytes : (s : ℕ) → wordBytes (repeatedOf ps vs s) ≡ bytes (paintAt (repeated (stopsOf ps vs)) (pos s))
-  repeated-bytes s =
-      ap wordBytes (sym (moved-color s _ refl)) ∙ entry-bytes ps vs (h .lent) (movedIn ps s)
-      ∙ ap (λ (z : ℤ). bytes (colorAt (stopsOf ps vs) z)) (sym (moved-is s))
+  pub repeated-bytes : (at : ℕ) → wordBytes (repeatedOf ps vs at) ≡ bytes (paintAt (repeated (stopsOf ps vs)) (unbiased at))
+  repeated-bytes at =
+      ap wordBytes (sym (moved-color at _ refl)) ∙ entry-bytes ps vs (h .lent) (movedIn ps at)
+      ∙ ap (λ (z : ℤ). bytes (colorAt (stopsOf ps vs) z)) (sym (moved-is at))
 
   -- .. and so is that of another location as far away from both, in the same period
-  pub along-color : (s m r u : ℕ) → m ≡ movedIn ps s → firstIn ps ≤ u → u < lastIn ps → m + r ≡ u + s → entryOf ps vs u ≡ repeatedOf ps vs r
-  along-color s m r u e lo hi d =
-      moved-color r u (sym (moved-along (firstIn ps) (lastIn ps) (bias + s) (bias + r) u (h .period) lo hi (omega (arith, e))))
+  pub along-color : (at m r u : ℕ) → m ≡ movedIn ps at → firstIn ps ≤ u → u < lastIn ps → m + r ≡ u + at → entryOf ps vs u ≡ repeatedOf ps vs r
+  along-color at m r u e lo hi d = moved-color r u (sym (moved-along (firstIn ps) (lastIn ps) at r u (h .period) lo hi (omega (arith, e))))
 
   -- entry j of a piece that begins with entry k, which is moved to `at`
-  pub piece-entry : (base s k j at : ℕ) → at ≡ movedIn ps (base + k * s) → firstIn ps ≤ at → at + j * s < lastIn ps → entryAt ps vs at s j ≡ repeatedAt ps vs base s (k + j)
-  piece-entry base s k j at e lo hi = along-color (base + k * s) at (base + (k + j) * s) (at + j * s) e (omega arith) hi (omega arith)
+  pub piece-entry : (first s k j at : ℕ) → at ≡ movedIn ps (first + k * s) → firstIn ps ≤ at → at + j * s < lastIn ps
+      → entryAt ps vs at s j ≡ repeatedAt ps vs first s (k + j)
+  piece-entry first s k j at e lo hi = along-color (first + k * s) at (first + (k + j) * s) (at + j * s) e (omega arith) hi (omega arith)
 
   -- entries that are whole periods apart
-  pub entry-again : (base s q k : ℕ) → q * s % (lastIn ps - firstIn ps) ≡ 0 → repeatedAt ps vs base s (k + q) ≡ repeatedAt ps vs base s k
-  entry-again base s q k e =
-      let i : bias + (base + (k + q) * s) ≡ bias + (base + k * s) + q * s = omega arith in
-      sym (moved-color (base + (k + q) * s) _ refl)
-      ∙ ap (entryOf ps vs) (ap (movedBiased (firstIn ps) (lastIn ps)) i ∙ moved-again (firstIn ps) (lastIn ps) (bias + (base + k * s)) (q * s) (h .period) e)
-      ∙ moved-color (base + k * s) _ refl
+  pub entry-again : (first s q k : ℕ) → q * s % (lastIn ps - firstIn ps) ≡ 0 → repeatedAt ps vs first s (k + q) ≡ repeatedAt ps vs first s k
+  entry-again first s q k e =
+      let i : first + (k + q) * s ≡ first + k * s + q * s = omega arith in
+      sym (moved-color (first + (k + q) * s) _ refl)
+      ∙ ap (entryOf ps vs) (ap (movedIn ps) i ∙ moved-again (firstIn ps) (lastIn ps) (first + k * s) (q * s) (h .period) e)
+      ∙ moved-color (first + k * s) _ refl
 
 -- ---- the entries of a piece that are s units apart, in d units
 pub piece-some : (d s : ℕ) → 0 < s → 0 < d → 0 < (d + (s - 1)) / s
@@ -114,3 +112,13 @@ stored-part f a b t p rest h o e = record {
   where
     n : length (take a t) ≡ a
     n = length-take-le a t h
+
+-- the front of a list that is replaced by as many numbers of f
+pub front-length : (t p : List ℕ) (n : ℕ) → length p ≡ n → n ≤ length t → length (p ++ drop n t) ≡ length t
+front-length t p n o h = length-append p (drop n t) ∙ rw (o, length-drop) (omega arith)
+
+pub front-filled : (f : ℕ → ℕ) (t p : List ℕ) (n m : ℕ) → length p ≡ n → n ≤ length t → ((k : ℕ) → k < m → k < length t → k < n) → Filled f p
+    → (k : ℕ) → k < m → k < length (p ++ drop n t) → getD (p ++ drop n t) k 0 ≡ f k
+front-filled f t p n m o h w e k l i =
+    let j : k < length p = rw o (w k l (rw (front-length t p n o h) at i)) in
+    List·getD-append p (drop n t) 0 k j ∙ e k j

@@ -3,9 +3,8 @@
 use mathlib.Core.Path.{_≡_}
 use mathlib.Core.List.{List}
 use Prim.Native.Nat.{ℕ, _+_, _-_, _*_, _≤_, _<_}
-use lib.IntN.{pos}
 use lib.ListN.{length, getD}
-use Rattle.numbers.specs.Biased.{bias, twiceBias}
+use Rattle.numbers.specs.Biased.{twiceBias, unbiased}
 use Rattle.color.specs.Lent.{Lent, stopsOf, movedBiased}
 use Rattle.color.specs.Paint.{repeated, paintAt}
 use Rattle.table.specs.Table.{packed}
@@ -23,17 +22,17 @@ pub record Periodic (ps vs : List ℕ) : Type 0 where
   pub period : firstIn ps < lastIn ps
   pub range : lastIn ps ≤ twiceBias
 
--- the color at the location s
+-- the color at a biased location
 unfoldable pub repeatedOf : List ℕ → List ℕ → ℕ → ℕ
-repeatedOf ps vs s = packed (paintAt (repeated (stopsOf ps vs)) (pos s))
+repeatedOf ps vs at = packed (paintAt (repeated (stopsOf ps vs)) (unbiased at))
 
--- the biased location that the location s is moved to
+-- the biased location that it is moved to
 abbrev pub movedIn : List ℕ → ℕ → ℕ
-movedIn ps s = movedBiased (firstIn ps) (lastIn ps) (bias + s)
+movedIn ps at = movedBiased (firstIn ps) (lastIn ps) at
 
--- the color of entry k of a table that starts at `base` and has an entry every s units
+-- the color of entry k of a table that starts at the biased location `first` and has an entry every s units
 abbrev pub repeatedAt : List ℕ → List ℕ → ℕ → ℕ → ℕ → ℕ
-repeatedAt ps vs base s k = repeatedOf ps vs (base + k * s)
+repeatedAt ps vs first s k = repeatedOf ps vs (first + k * s)
 
 -- the entries are f's
 abbrev pub Filled : (ℕ → ℕ) → List ℕ → Type 0

@@ -332,8 +332,8 @@ pub fn last(v: SignedVector, z: Strip, from: usize, end: usize) -> u32
     corner(v, z, from, end, !v.left, !v.up)
 }
 
-// How many entries a table should have where the locations take n: none where few pixels are to be drawn.
-pub fn entries(v: SignedVector, s: Shift, z: Strip, n: usize) -> usize
+// How many entries a table should have where the locations take n: none where fewer pixels are to be drawn than `few`.
+pub fn entries(v: SignedVector, s: Shift, z: Strip, n: usize, few: usize) -> usize
     requires { ⌜ Box (z .w) (z .h) × Bounded v × (z .a < z .b) × (z .b ≤ z .h) ⌝ }
     ensures { λ r. ⌜ r ≤ n ⌝ }
 {
@@ -343,5 +343,5 @@ pub fn entries(v: SignedVector, s: Shift, z: Strip, n: usize) -> usize
     } else {
         z.w * rows
     };
-    if pixels < n / 8 { 0 } else { n }
+    if pixels < few { 0 } else { n }
 }

@@ -194,14 +194,19 @@ fn section_entries(v: SignedVector, z: Strip) -> usize
     picture::at_most(SMALL, n + 1)
 }
 
-fn straight_plan(v: SignedVector, z: Strip) -> Plan
+// Below how many pixels a table of n entries does not pay. One of repeated stops is filled sooner, and without it their colors take longer.
+fn few_pixels(n: usize, repeated: bool) -> usize {
+    if repeated { n / 64 } else { n / 8 }
+}
+
+fn straight_plan(v: SignedVector, z: Strip, repeated: bool) -> Plan
     requires { ⌜ Box (z .w) (z .h) × Bounded v × (z .a < z .b) × (z .b ≤ z .h) ⌝ }
     ensures { λ r. ⌜ Planned r mostEntries ⌝ }
 {
     let first = straight::first(v, z, 0, z.w);
     let n = span(first, straight::last(v, z, 0, z.w));
     let shift = straight::shift_of(v);
-    let entries = straight::entries(v, shift, z, n);
+    let entries = straight::entries(v, shift, z, n, few_pixels(n, repeated));
     let base = base_of(first);
     if SMALL < entries {
         if z.b - z.a <= LOW {
@@ -323,18 +328,18 @@ fn draw_large_box(p: Plan, stops: &[u32], l: Line, z: Strip, buf: &mut [u8])
 
 // ---- by what the line and the colors are like
 
-// Draws a strip in which all pixels have one color, as along a line straight down.
+// Draws a strip in which all pixels have one color, as along a line to the right.
 fn draw_one_color(stops: &[u32], l: Line, z: Strip, buf: &mut [u8])
     requires { ⌜ Drawable (now stops) l z (length (now buf)) × ((s t : ℕ) → colorIn (now stops) s ≡ colorIn (now stops) t) ⌝ }
     ensures { λ _. ⌜ now (buf .exit) ≡ patched (now (buf .entry)) 0 (stripOf (now (stops .entry)) l z) ⌝ }
 {
-    let down = SignedVector {
-        x: 0,
-        y: 1,
+    let right = SignedVector {
+        x: 1,
+        y: 0,
         left: false,
         up: false,
     };
-    axisrows::draw_vertical(stops, down, z, buf);
+    axisrows::draw_horizontal(stops, right, z, buf);
 }
 
 // Draws a strip of any colors.
@@ -349,7 +354,7 @@ fn draw_colors(stops: &[u32], l: Line, z: Strip, buf: &mut [u8])
             } else if v.y == 0 {
                 axisrows::draw_horizontal(stops, v, z, buf);
             } else {
-                let p = straight_plan(v, z);
+                let p = straight_plan(v, z, ramp::is_repeated(stops));
                 if is_tiny(p) {
                     draw_small_box(p, stops, l, z, buf);
                 } else {

@@ -418,7 +418,7 @@ pub fn stretch_at(positions: &[u32], values: &[u32], at: u32, low: u32) -> Stret
 // The same colors at other locations: what is at `from` moves to `to`.
 pub fn moved(t: Stretch, from: u64, to: u64) -> Stretch
     requires { ⌜ (0 < t .count → from ≤ t .first + to) × (t .first < 4294967296) × (to < 4294967296) ⌝ }
-    ensures { λ r. ⌜ (r .first ≤ t .first + to) × (0 < t .count → r .first + from ≡ t .first + to)
+    ensures { λ r. ⌜ (r .count ≡ t .count) × (r .first ≤ t .first + to) × (0 < t .count → r .first + from ≡ t .first + to)
         × ((f color : ℕ → ℕ) → Stretched f t → r .first ≤ farthest → ((k : ℕ) → k < t .count → f (t .first + k) ≡ color (r .first + k)) → Stretched color r) ⌝ }
 {
     if t.count == 0 {

@@ -2,15 +2,16 @@
 use mathlib.Core.Path.{sym, ap₂, _∙_}
 use mathlib.Core.List.{List}
 use Prim.Native.Nat.{ℕ, _+_}
-use native.Mathlib.Omega.{arith}
 use denote.Ref.{now}
 use Rattle.table.specs.Table.{entryOf}
 use Rattle.repeats.specs.Repeats.{repeatedOf}
 use Rattle.ramp.proofs.Heads.{color-once, color-repeated}
 use borrow.Author.Needs.{needs}
-use Rattle.table.proofs.color_of.Reads as color-of-reads′
 use Rattle.ramp.proofs.color_by_stops.Statement.{statement}
 use Rattle.ramp.proofs.color_by_stops.Tie as tie
+
+add-at : tie.Need-add-at
+add-at c = search needs
 
 is-repeated-requires : tie.Need-is-repeated-requires
 is-repeated-requires c κs = search needs
@@ -22,14 +23,12 @@ values-requires : tie.Need-values-requires
 values-requires c κs = search needs
 
 color-of-requires : tie.Need-color-of-requires
-color-of-requires c κs =
-    let s = c .before .before .before .before .before in
-    (rw (c .before .positions .ensures, c .values .ensures) (s .pre .0 .period (sym (c .before .before .before .is-repeated .ensures) ∙ c .before .before .if1 .taken)), omega (arith, s .pre .1))
+color-of-requires c κs = rw (c .before .positions .ensures, c .values .ensures) (c .before .before .before .before .before .pre .0 .period (sym (c .before .before .before .is-repeated .ensures) ∙ c .before .before .if1 .taken))
 
 returns : tie.Need-returns
 returns c =
     let a = c .before .before .before .before .before .before .args in
-    c .color-of .ensures ∙ ap₂ (λ (ps vs : List ℕ). repeatedOf ps vs (a .s)) (c .before .before .positions .ensures) (c .before .values .ensures)
+    c .color-of .ensures ∙ ap₂ (λ (ps vs : List ℕ). repeatedOf ps vs (33554432 + a .s)) (c .before .before .positions .ensures) (c .before .values .ensures)
     ∙ color-repeated (now (a .ramp)) (sym (c .before .before .before .before .is-repeated .ensures) ∙ c .before .before .before .if1 .taken) (a .s)
 
 positions-requires-2 : tie.Need-positions-requires-2
@@ -37,9 +36,6 @@ positions-requires-2 c κs = search needs
 
 values-requires-2 : tie.Need-values-requires-2
 values-requires-2 c κs = search needs
-
-add-color-of : tie.Need-add-color-of
-add-color-of c = search needs
 
 color-of-requires-2 : tie.Need-color-of-requires-2
 color-of-requires-2 c κs = rw (c .before .positions2 .ensures, c .values2 .ensures) (c .before .before .before .before .before .pre .0 .lent)
@@ -54,6 +50,7 @@ pub color-by-stops-spec : {M : Type 1} → statement M
 color-by-stops-spec =
     tie.close
     (tie.spec
+    add-at
     is-repeated-requires
     positions-requires
     values-requires
@@ -61,6 +58,5 @@ color-by-stops-spec =
     returns
     positions-requires-2
     values-requires-2
-    add-color-of
     color-of-requires-2
     returns-2)

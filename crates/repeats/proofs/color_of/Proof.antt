@@ -18,7 +18,7 @@ color-of-requires c κs = search needs
 returns : tie.Need-returns
 returns c =
     let s = c .before .before .before .before in
-    c .color-of .ensures ∙ moved-color (now (s .args .positions)) (now (s .args .values)) (s .pre .0) (s .args .s) _ (c .before .moved .ensures .0)
+    c .color-of .ensures ∙ moved-color (now (s .args .positions)) (now (s .args .values)) (s .pre) (s .args .at) _ (c .before .moved .ensures .0)
 
 pub color-of-spec : {M : Type 1} → statement M
 color-of-spec = tie.close (tie.spec moved-requires cast-color-of color-of-requires returns)

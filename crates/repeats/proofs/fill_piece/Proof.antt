@@ -13,12 +13,12 @@ use Rattle.repeats.proofs.fill_piece.Statement.{statement}
 use Rattle.repeats.proofs.fill_piece.Tie as tie
 
 -- entry k's location
-inside : (c : tie.Start) → c .args .base + c .args .k * c .args .stride ≤ 33554432
+inside : (c : tie.Start) → c .args .first + c .args .k * c .args .stride ≤ 67108864
 inside c =
     let m : c .args .k * c .args .stride ≤ length (now (c .args .t)) * c .args .stride = mul-le-mul-right (c .args .stride) (omega (arith, c .pre .4)) in
     omega (arith, c .pre .2)
 
-small : (c : tie.Start) → c .args .stride ≤ 33554432
+small : (c : tie.Start) → c .args .stride ≤ 67108864
 small c =
     let m : 1 * c .args .stride ≤ length (now (c .args .t)) * c .args .stride = mul-le-mul-right (c .args .stride) (omega (arith, c .pre .4)) in
     omega (arith, c .pre .2)
@@ -52,7 +52,7 @@ cast-moved-2 : tie.Need-cast-moved-2
 cast-moved-2 c = omega (arith, inside (c .before .before .before .before))
 
 moved-requires : tie.Need-moved-requires
-moved-requires c κs = let s = c .before .before .before .before in (s .pre .0 .lent .some, s .pre .0 .period, omega (arith, inside s))
+moved-requires c κs = let s = c .before .before .before .before in (s .pre .0 .lent .some, s .pre .0 .period)
 
 sub-entries-in : tie.Need-sub-entries-in
 sub-entries-in c = search needs
@@ -117,7 +117,7 @@ returns c =
     let d : ℕ = lastIn (now (a .positions)) - u .result in
     let b : (k : ℕ) → k < m .result → k < (d + (a .stride - 1)) / a .stride = λ k h. rw (← c .before .before .before .before .before .entries-in .ensures) (omega (arith, m .ensures .1)) in (
       stored-part _ (a .k) (m .result) (now (a .t)) (c .before .before .fill-spaced .last .0) _ (omega (arith, s .pre .4)) o
-          (λ k h. f .0 k h ∙ piece-entry (now (a .positions)) (now (a .values)) (s .pre .0) (a .base) (a .stride) (a .k) k _ (u .ensures .0) (u .ensures .1)
+          (λ k h. f .0 k h ∙ piece-entry (now (a .positions)) (now (a .values)) (s .pre .0) (a .first) (a .stride) (a .k) k _ (u .ensures .0) (u .ensures .1)
           (omega (arith, piece-within d (a .stride) k (s .pre .1) (b k (omega arith)), u .ensures .2))),
       omega (arith, m .ensures .0),
       omega (arith, m .ensures .2),

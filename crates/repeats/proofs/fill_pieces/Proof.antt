@@ -12,11 +12,11 @@ use Rattle.repeats.proofs.fill_pieces.Statement.{statement}
 use Rattle.repeats.proofs.fill_pieces.Tie as tie
 
 abbrev Inv-loop : tie.InvT-loop
-Inv-loop t₀ positions values base stride n k₀ t k =
-    Stored (repeatedAt positions values base stride) 0 k t₀ t × (k ≤ n) × (length t ≡ length t₀)
+Inv-loop t₀ positions values first stride n k₀ t k =
+    Stored (repeatedAt positions values first stride) 0 k t₀ t × (k ≤ n) × (length t ≡ length t₀)
 
 abbrev μ-loop : tie.MeasureT-loop
-μ-loop t₀ positions values base stride n k₀ t k = n - k
+μ-loop t₀ positions values first stride n k₀ t k = n - k
 
 loop-holds : tie.Need-loop-holds Inv-loop μ-loop
 loop-holds c = (stored-none _ 0 (now (c .before .before .before .args .t)), omega arith, refl)

@@ -13,17 +13,20 @@ draw-vertical-requires c κs = (drawable (c .before .before .before .before .bef
 draw-horizontal-requires : tie.Need-draw-horizontal-requires
 draw-horizontal-requires c κs = (drawable (c .before .before .before .before .before .before .before .before .before .before .pre) (c .before .before .before .before .before .before .l .given .1), c .before .if2 .taken)
 
+is-repeated-requires : tie.Need-is-repeated-requires
+is-repeated-requires c κs = search needs
+
 straight-plan-requires : tie.Need-straight-plan-requires
-straight-plan-requires c κs = let d = c .before .before .before .before .before .before .before .before .before .pre in let q = rw (c .before .before .before .before .before .l .given .1) at (d .placed) in (q .box, q .sound, d .rows .some, d .rows .within)
+straight-plan-requires c κs = let d = c .before .before .before .before .before .before .before .before .before .before .pre in let q = rw (c .before .before .before .before .before .before .l .given .1) at (d .placed) in (q .box, q .sound, d .rows .some, d .rows .within)
 
 is-tiny-requires : tie.Need-is-tiny-requires
 is-tiny-requires c κs = search needs
 
 draw-small-box-requires : tie.Need-draw-small-box-requires
-draw-small-box-requires c κs = let p = c .before .before .before .straight-plan .ensures in (drawable (c .before .before .before .before .before .before .before .before .before .before .before .before .before .pre) (c .before .before .before .before .before .before .before .before .before .l .given .1), record { base = p .base; entries = c .before .before .is-tiny .ensures (c .before .if3 .taken) })
+draw-small-box-requires c κs = let p = c .before .before .before .straight-plan .ensures in (drawable (c .before .before .before .before .before .before .before .before .before .before .before .before .before .before .pre) (c .before .before .before .before .before .before .before .before .before .before .l .given .1), record { base = p .base; entries = c .before .before .is-tiny .ensures (c .before .if3 .taken) })
 
 draw-large-box-requires : tie.Need-draw-large-box-requires
-draw-large-box-requires c κs = let p = c .before .before .before .straight-plan .ensures in (drawable (c .before .before .before .before .before .before .before .before .before .before .before .before .before .pre) (c .before .before .before .before .before .before .before .before .before .l .given .1), p)
+draw-large-box-requires c κs = let p = c .before .before .before .straight-plan .ensures in (drawable (c .before .before .before .before .before .before .before .before .before .before .before .before .before .before .pre) (c .before .before .before .before .before .before .before .before .before .before .l .given .1), p)
 
 enum-known-l-2 : tie.Need-enum-known-l-2
 enum-known-l-2 c = search needs
@@ -56,13 +59,13 @@ same-length-3 : tie.Need-same-length-3
 same-length-3 c = search needs
 
 returns-3 : tie.Need-returns-3
-returns-3 c = rw (c .before .before .before .before .before .before .before .before .before .before .before .before .l .given .1) (c .before .before .draw-small-box .ensures)
+returns-3 c = rw (c .before .before .before .before .before .before .before .before .before .before .before .before .before .l .given .1) (c .before .before .draw-small-box .ensures)
 
 same-length-4 : tie.Need-same-length-4
 same-length-4 c = search needs
 
 returns-4 : tie.Need-returns-4
-returns-4 c = rw (c .before .before .before .before .before .before .before .before .before .before .before .before .l .given .1) (c .before .before .draw-large-box .ensures)
+returns-4 c = rw (c .before .before .before .before .before .before .before .before .before .before .before .before .before .l .given .1) (c .before .before .draw-large-box .ensures)
 
 same-length-5 : tie.Need-same-length-5
 same-length-5 c = search needs
@@ -83,6 +86,7 @@ draw-colors-spec =
     enum-known-l
     draw-vertical-requires
     draw-horizontal-requires
+    is-repeated-requires
     straight-plan-requires
     is-tiny-requires
     draw-small-box-requires
