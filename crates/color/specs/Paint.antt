@@ -41,7 +41,7 @@ abbrev pub paintOf : Bool → List Stop → Paint
 paintOf false stops = once stops
 paintOf true stops = repeatedBy (periodOf stops) stops
 
--- "a location is moved by whole periods until it lies from F up to but not including T". The law `moved-is` says that it is.
+-- "a location is moved by whole periods until it lies from F up to but not including T". The law `together` says that it is.
 unfoldable pub movedTo : ℤ → ℕ → ℤ → ℤ
 movedTo F p s = F +ℤ pos (remainder (s -ℤ F) p)
 

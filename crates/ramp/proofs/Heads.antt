@@ -4,8 +4,8 @@ use mathlib.Core.Path.{_≡_, refl, sym, ap, ap₂, _∙_}
 use mathlib.Core.Bool.{Bool, true, false, false≢true}
 use mathlib.Core.List.{List, [], _∷_, _++_, map, append-nil}
 use borrow.Rule.Slice.PartMut.{putMid, postOf, take-put}
-use Prim.Native.Nat.{ℕ, zero, suc, _+_, _-_, _*_, _≤_, _<_}
-use native.Mathlib.Nat.{mul-one}
+use Prim.Native.Nat.{ℕ, zero, suc, _+_, _-_, _*_, _/_, _%_, _≤_, _<_}
+use native.Mathlib.Nat.{mul-one, div-add-mod', mul-mod-right}
 use native.Mathlib.Omega.{arith}
 use lib.ListN.{length, getD, take, drop, set, length-drop, length-set, length-append, drop-of-length-le}
 use lib.Seq.{take-take, getD-take, getD-drop, getD-set-same, getD-set-other, drop-set-lt, drop-at, length-take-le}
@@ -37,7 +37,8 @@ use Rattle.table.proofs.Runs.{rising-le}
 use Rattle.table.proofs.Stretches.{stretched-moved}
 use Rattle.repeats.specs.Repeats.{firstIn, lastIn, Periodic, repeatedOf}
 use Rattle.repeats.proofs.Periods.{period-is, repeated-bytes}
-use Rattle.ramp.specs.Ramp.{positionsIn, valuesIn, stopsIn, repeatsIn, colorIn, Spread, Stops, Holds, Made, Like, Biased}
+use Rattle.repeats.proofs.Periods as repeats
+use Rattle.ramp.specs.Ramp.{positionsIn, valuesIn, stopsIn, repeatsIn, periodIn, colorIn, Spread, Stops, Holds, Made, Like, Biased}
 
 -- what stands within the first k elements
 inner : {A : Type 0} (n m k : ℕ) (l : List A) → m + n ≤ k → take n (drop m (take k l)) ≡ take n (drop m l)
@@ -129,6 +130,16 @@ color-once r e s = rw e (ap (λ (z : ℤ). packed (colorAt (stopsIn r) z)) (bias
 pub color-repeated : (r : List ℕ) → repeatsIn r ≡ true → (s : ℕ) → repeatedOf (positionsIn r) (valuesIn r) (bias + s) ≡ colorIn r s
 unfolding colorIn repeatedOf
 color-repeated r e s = rw e (ap (λ (z : ℤ). packed (paintAt (repeated (stopsIn r)) z)) (biased-count bias s))
+
+-- .. which come again
+pub color-again : (r : List ℕ) → Stops r → (e : repeatsIn r ≡ true) → (b s : ℕ) → b ≤ s → 0 < periodIn r → colorIn r (b + (s - b) % periodIn r) ≡ colorIn r s
+color-again r h e b s l some =
+    let p : ℕ = periodIn r in
+    let q : ℕ = p * ((s - b) / p) in
+    let d : bias + (b + (s - b) % p) + q ≡ bias + s = omega (arith, div-add-mod' (s - b) p) in
+    sym (color-repeated r e (b + (s - b) % p))
+    ∙ sym (repeats.color-again (positionsIn r) (valuesIn r) (h .period e) (bias + (b + (s - b) % p)) q (mul-mod-right p ((s - b) / p)))
+    ∙ ap (repeatedOf (positionsIn r) (valuesIn r)) d ∙ color-repeated r e s
 
 -- .. in a stretch that begins at the location 0 or later
 pub biased-is : (r : List ℕ) (t : Stretch) (f : ℕ → ℕ) → ((s : ℕ) → f (bias + s) ≡ colorIn r s) → Stretched f t → (0 < t .count → bias ≤ t .first) → Biased r t

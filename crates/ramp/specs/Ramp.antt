@@ -19,7 +19,7 @@ use Rattle.color.specs.Paint.{Paint, once, repeated, paintAt}
 use Rattle.words.specs.Word.{wordBytes}
 use Rattle.table.specs.Table.{packed, Stretched}
 use Rattle.table.specs.declared.Stretch.{Stretch}
-use Rattle.repeats.specs.Repeats.{lastIn, Periodic}
+use Rattle.repeats.specs.Repeats.{firstIn, lastIn, Periodic}
 
 -- the words of the head, and the stops that it has room for
 abbrev pub headSize : ℕ
@@ -45,6 +45,9 @@ stopsIn r = stopsOf (positionsIn r) (valuesIn r)
 
 abbrev pub repeatsIn : List ℕ → Bool
 repeatsIn r = eqb (getD r 2 0) 1
+
+abbrev pub periodIn : List ℕ → ℕ
+periodIn r = lastIn (positionsIn r) - firstIn (positionsIn r)
 
 -- the table, and its first location
 abbrev pub tableIn : List ℕ → List ℕ

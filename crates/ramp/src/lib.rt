@@ -15,7 +15,7 @@ ghost use Rattle.color.specs.Stop.{stopOf};
 ghost use Rattle.color.specs.Paint.{paintOf};
 ghost use Rattle.color.specs.Numbers.{Lendable};
 ghost use Rattle.walk.specs.Walk.{mostSteps};
-ghost use Rattle.ramp.specs.Ramp.{mostStops, headSize, locationLimit, positionsIn, valuesIn, repeatsIn, tableIn, baseIn, colorIn, Spread, Stops, Ramp, Holds, Made, Like, Held, Biased};
+ghost use Rattle.ramp.specs.Ramp.{mostStops, headSize, locationLimit, positionsIn, valuesIn, repeatsIn, periodIn, tableIn, baseIn, colorIn, Spread, Stops, Ramp, Holds, Made, Like, Held, Biased};
 ghost use Rattle.picture.specs.Picture.{patched};
 
 // The word that is the number of stops.
@@ -72,6 +72,15 @@ pub fn is_repeated(ramp: &[u32]) -> bool
     ramp[REPEATS] == 1
 }
 
+// The period of stops that are repeated.
+pub fn period(ramp: &[u32]) -> u32
+    requires { ⌜ Stops (now ramp) × (repeatsIn (now ramp) ≡ true) ⌝ }
+    ensures { λ r. ⌜ (r ≡ periodIn (now (ramp .entry))) × (0 < r) ⌝ }
+{
+    let p = positions(ramp);
+    p[p.len() - 1] - p[0]
+}
+
 // Whether all locations have one color: there is one stop.
 pub fn is_one_color(ramp: &[u32]) -> bool
     requires { ⌜ Stops (now ramp) ⌝ }
@@ -110,17 +119,36 @@ pub fn color_by_stops(ramp: &[u32], s: u64) -> u32
     table::color_of(positions(ramp), values(ramp), at)
 }
 
-// From the table, or from the stops where the table does not reach.
+// From the table, too, where stops that are repeated have the same color there, else from the stops.
+fn color_past(ramp: &[u32], s: u64) -> u32
+    requires { ⌜ Ramp (now ramp) × (s < locationLimit) × (baseIn (now ramp) ≤ s) ⌝ }
+    ensures { λ r. ⌜ r ≡ colorIn (now (ramp .entry)) s ⌝ }
+{
+    if is_repeated(ramp) {
+        let k = ((s - (base_of(ramp) as u64)) % (period(ramp) as u64)) as usize;
+        let t = table_of(ramp);
+        if k < t.len() {
+            return t[k];
+        }
+    }
+    color_by_stops(ramp, s)
+}
+
+// From the table, or as well as can be where the table does not reach.
 pub fn color(ramp: &[u32], s: u64) -> u32
     requires { ⌜ Ramp (now ramp) × (s < locationLimit) ⌝ }
     ensures { λ r. ⌜ r ≡ colorIn (now (ramp .entry)) s ⌝ }
 {
     let t = table_of(ramp);
-    let k = std::num::wrapping_sub_u64(s, base_of(ramp) as u64) as usize;
+    let base = base_of(ramp) as u64;
+    if s < base {
+        return color_by_stops(ramp, s);
+    }
+    let k = (s - base) as usize;
     if k < t.len() {
         return t[k];
     }
-    color_by_stops(ramp, s)
+    color_past(ramp, s)
 }
 
 // The stretch that a biased location is in, from the location 0 on, or one of no locations.

@@ -62,13 +62,15 @@ module _ (ps vs : List ℕ) (h : Periodic ps vs) where
       → entryAt ps vs at s j ≡ repeatedAt ps vs first s (k + j)
   piece-entry first s k j at e lo hi = along-color (first + k * s) at (first + (k + j) * s) (at + j * s) e (omega arith) hi (omega arith)
 
-  -- entries that are whole periods apart
+  -- whole periods on, the colors come again
+  pub color-again : (at n : ℕ) → n % (lastIn ps - firstIn ps) ≡ 0 → repeatedOf ps vs (at + n) ≡ repeatedOf ps vs at
+  color-again at n e =
+      sym (moved-color (at + n) _ refl) ∙ ap (entryOf ps vs) (moved-again (firstIn ps) (lastIn ps) at n (h .period) e) ∙ moved-color at _ refl
+
   pub entry-again : (first s q k : ℕ) → q * s % (lastIn ps - firstIn ps) ≡ 0 → repeatedAt ps vs first s (k + q) ≡ repeatedAt ps vs first s k
   entry-again first s q k e =
       let i : first + (k + q) * s ≡ first + k * s + q * s = omega arith in
-      sym (moved-color (first + (k + q) * s) _ refl)
-      ∙ ap (entryOf ps vs) (ap (movedIn ps) i ∙ moved-again (firstIn ps) (lastIn ps) (first + k * s) (q * s) (h .period) e)
-      ∙ moved-color (first + k * s) _ refl
+      ap (repeatedOf ps vs) i ∙ color-again (first + k * s) (q * s) e
 
 -- ---- the entries of a piece that are s units apart, in d units
 pub piece-some : (d s : ℕ) → 0 < s → 0 < d → 0 < (d + (s - 1)) / s

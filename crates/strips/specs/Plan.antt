@@ -8,12 +8,15 @@ use Rattle.strips.specs.declared.Plan.{Plan}
 abbrev pub narrow : ℕ
 narrow = 256
 
--- the most entries of a tiny, of a small and of any table
+-- the most entries of a tiny, of a small, of a middle-sized and of any table
 abbrev pub tinyTable : ℕ
 tinyTable = 6144
 
 abbrev pub smallTable : ℕ
 smallTable = 16384
+
+abbrev pub mediumTable : ℕ
+mediumTable = 65536
 
 abbrev pub mostEntries : ℕ
 mostEntries = 185408

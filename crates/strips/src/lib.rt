@@ -12,10 +12,10 @@ ghost use Rattle.line.specs.declared.Line.{Line};
 ghost use Rattle.line.specs.Box.{Box};
 ghost use Rattle.line.specs.Represented.{Bounded, Near};
 ghost use Rattle.picture.specs.Picture.{patched};
-ghost use Rattle.ramp.specs.Ramp.{headSize, colorIn, Ramp};
+ghost use Rattle.ramp.specs.Ramp.{headSize, colorIn, Stops, Ramp};
 ghost use Rattle.rows.specs.Pixel.{Placed, Rows, Drawable, stripOf};
 ghost use Rattle.circle.specs.Circular.{Circular};
-ghost use Rattle.strips.specs.Plan.{narrow, tinyTable, smallTable, mostEntries, lastBase, Planned, Room};
+ghost use Rattle.strips.specs.Plan.{narrow, tinyTable, smallTable, mediumTable, mostEntries, lastBase, Planned, Room};
 
 // The most columns of a narrow strip.
 const NARROW: usize = 256;
@@ -25,6 +25,9 @@ const WIDE: usize = 2048;
 
 // The most rows of a low strip.
 const LOW: usize = 64;
+
+// So many pixels, or more, are many.
+const MANY: usize = 1048576;
 
 // The columns of a section. A small table has room for the locations of so many columns of a low strip.
 const SECTION: usize = 192;
@@ -38,6 +41,12 @@ const TINY: usize = 6144;
 // The most entries of a small table.
 const SMALL: usize = 16384;
 
+// The most entries of a table of middle size.
+const MEDIUM: usize = 65536;
+
+// A period of so many units, or fewer, is short.
+const SHORT: usize = 1024;
+
 // The most entries of any table: more than the diagonal of the largest box has units.
 const LARGE: usize = 185408;
 
@@ -46,6 +55,9 @@ const TINY_RAMP: usize = ramp::HEAD + TINY;
 
 // The words of a ramp with a small table.
 const SMALL_RAMP: usize = ramp::HEAD + SMALL;
+
+// The words of a ramp with a table of middle size.
+const MEDIUM_RAMP: usize = ramp::HEAD + MEDIUM;
 
 // The words of a ramp with the largest table.
 const LARGE_RAMP: usize = ramp::HEAD + LARGE;
@@ -154,8 +166,17 @@ fn draw_in_room(ramp: &mut [u32], p: Plan, stops: &[u32], l: Line, z: Strip, buf
     }
 }
 
-// `draw_with` once more, for the largest table alone. Having one caller, this copy is inlined all the way into `draw_large_box`. That makes
-// `draw_large_box` too long to be inlined itself: its 741 KB of stack would otherwise be taken for every small picture, too.
+// `draw_with` twice more, for one table alone each: one of middle size, and the largest. Having one caller, such a copy is inlined all the way into
+// `draw_medium_box` or `draw_large_box`. That makes these too long to be inlined themselves: their 262 KB and 741 KB of stack would otherwise be taken for
+// every small picture, too.
+fn draw_with_medium(ramp: &mut [u32], p: Plan, stops: &[u32], l: Line, z: Strip, buf: &mut [u8])
+    requires { ⌜ Drawable (now stops) l z (length (now buf)) × Room (p .base) (length (now ramp)) ⌝ }
+    ensures { λ _. ⌜ now (buf .exit) ≡ patched (now (buf .entry)) 0 (stripOf (now (stops .entry)) l z) ⌝ }
+{
+    ramp::set_table(ramp, stops, p.base);
+    draw_ready(ramp, p.shift, l, z, buf);
+}
+
 fn draw_with_most(ramp: &mut [u32], p: Plan, stops: &[u32], l: Line, z: Strip, buf: &mut [u8])
     requires { ⌜ Drawable (now stops) l z (length (now buf)) × Room (p .base) (length (now ramp)) ⌝ }
     ensures { λ _. ⌜ now (buf .exit) ≡ patched (now (buf .entry)) 0 (stripOf (now (stops .entry)) l z) ⌝ }
@@ -196,17 +217,38 @@ fn section_entries(v: SignedVector, z: Strip) -> usize
 
 // Below how many pixels a table of n entries does not pay. One of repeated stops is filled sooner, and without it their colors take longer.
 fn few_pixels(n: usize, repeated: bool) -> usize {
-    if repeated { n / 64 } else { n / 8 }
+    if repeated && n <= MEDIUM {
+        n / 64
+    } else {
+        n / 8
+    }
 }
 
-fn straight_plan(v: SignedVector, z: Strip, repeated: bool) -> Plan
-    requires { ⌜ Box (z .w) (z .h) × Bounded v × (z .a < z .b) × (z .b ≤ z .h) ⌝ }
+// How many entries a table has, instead of none: those of one period, where stops are repeated so often that few locations have the same ones around them.
+fn or_a_period(entries: usize, stops: &[u32]) -> usize
+    requires { ⌜ Stops (now stops) × (entries ≤ mostEntries) ⌝ }
+    ensures { λ r. ⌜ r ≤ mostEntries ⌝ }
+{
+    if entries == 0 {
+        if ramp::is_repeated(stops) {
+            let n = ramp::period(stops) as usize;
+            if n <= SHORT {
+                return n;
+            }
+        }
+    }
+    entries
+}
+
+fn straight_plan(stops: &[u32], v: SignedVector, z: Strip) -> Plan
+    requires { ⌜ Stops (now stops) × Box (z .w) (z .h) × Bounded v × (z .a < z .b) × (z .b ≤ z .h) ⌝ }
     ensures { λ r. ⌜ Planned r mostEntries ⌝ }
 {
     let first = straight::first(v, z, 0, z.w);
     let n = span(first, straight::last(v, z, 0, z.w));
     let shift = straight::shift_of(v);
-    let entries = straight::entries(v, shift, z, n, few_pixels(n, repeated));
+    let some = straight::entries(v, shift, z, n, few_pixels(n, ramp::is_repeated(stops)));
+    let entries = or_a_period(some, stops);
     let base = base_of(first);
     if SMALL < entries {
         if z.b - z.a <= LOW {
@@ -249,7 +291,14 @@ fn is_tiny(p: Plan) -> bool
     p.entries <= TINY
 }
 
-// ---- with tables of four sizes
+// Whether a table of middle size does.
+fn is_medium(p: Plan) -> bool
+    ensures { λ r. ⌜ (r ≡ true → p .entries ≤ mediumTable) ⌝ }
+{
+    p.entries <= MEDIUM
+}
+
+// ---- with tables of five sizes
 
 fn no_room() -> [u32; ramp::HEAD] {
     [0u32; ramp::HEAD]
@@ -261,6 +310,10 @@ fn tiny_room() -> [u32; TINY_RAMP] {
 
 fn small_room() -> [u32; SMALL_RAMP] {
     [0u32; SMALL_RAMP]
+}
+
+fn medium_room() -> [u32; MEDIUM_RAMP] {
+    [0u32; MEDIUM_RAMP]
 }
 
 fn large_room() -> [u32; LARGE_RAMP] {
@@ -293,6 +346,15 @@ fn with_small(p: Plan, stops: &[u32], l: Line, z: Strip, buf: &mut [u8])
     draw_in_room(&mut room[..n], p, stops, l, z, buf);
 }
 
+fn with_medium(p: Plan, stops: &[u32], l: Line, z: Strip, buf: &mut [u8])
+    requires { ⌜ Drawable (now stops) l z (length (now buf)) × Planned p mediumTable ⌝ }
+    ensures { λ _. ⌜ now (buf .exit) ≡ patched (now (buf .entry)) 0 (stripOf (now (stops .entry)) l z) ⌝ }
+{
+    let mut room = medium_room();
+    let n = ramp::HEAD + p.entries;
+    draw_with_medium(&mut room[..n], p, stops, l, z, buf);
+}
+
 fn with_large(p: Plan, stops: &[u32], l: Line, z: Strip, buf: &mut [u8])
     requires { ⌜ Drawable (now stops) l z (length (now buf)) × Planned p mostEntries ⌝ }
     ensures { λ _. ⌜ now (buf .exit) ≡ patched (now (buf .entry)) 0 (stripOf (now (stops .entry)) l z) ⌝ }
@@ -314,7 +376,20 @@ fn draw_small_box(p: Plan, stops: &[u32], l: Line, z: Strip, buf: &mut [u8])
     }
 }
 
-// With a small or the largest table. Only this function takes the stack for them: it has two callers, so the compiler does not inline it.
+// With a small table or one of middle size. Only this function takes the stack for the latter, and only the next one that for the largest: each has two
+// callers, so the compiler does not inline it.
+fn draw_medium_box(p: Plan, stops: &[u32], l: Line, z: Strip, buf: &mut [u8])
+    requires { ⌜ Drawable (now stops) l z (length (now buf)) × Planned p mediumTable ⌝ }
+    ensures { λ _. ⌜ now (buf .exit) ≡ patched (now (buf .entry)) 0 (stripOf (now (stops .entry)) l z) ⌝ }
+{
+    if p.entries <= SMALL {
+        with_small(p, stops, l, z, buf);
+    } else {
+        with_medium(p, stops, l, z, buf);
+    }
+}
+
+// With a small or the largest table. A plan for a small one is drawn above; without that branch this would be short enough to be inlined.
 fn draw_large_box(p: Plan, stops: &[u32], l: Line, z: Strip, buf: &mut [u8])
     requires { ⌜ Drawable (now stops) l z (length (now buf)) × Planned p mostEntries ⌝ }
     ensures { λ _. ⌜ now (buf .exit) ≡ patched (now (buf .entry)) 0 (stripOf (now (stops .entry)) l z) ⌝ }
@@ -328,18 +403,68 @@ fn draw_large_box(p: Plan, stops: &[u32], l: Line, z: Strip, buf: &mut [u8])
 
 // ---- by what the line and the colors are like
 
-// Draws a strip in which all pixels have one color, as along a line to the right.
-fn draw_one_color(stops: &[u32], l: Line, z: Strip, buf: &mut [u8])
-    requires { ⌜ Drawable (now stops) l z (length (now buf)) × ((s t : ℕ) → colorIn (now stops) s ≡ colorIn (now stops) t) ⌝ }
-    ensures { λ _. ⌜ now (buf .exit) ≡ patched (now (buf .entry)) 0 (stripOf (now (stops .entry)) l z) ⌝ }
+fn level() -> SignedVector
+    ensures { λ v. ⌜ (v .y ≡ 0) × Bounded v ⌝ }
 {
-    let right = SignedVector {
+    SignedVector {
         x: 1,
         y: 0,
         left: false,
         up: false,
-    };
-    axisrows::draw_horizontal(stops, right, z, buf);
+    }
+}
+
+fn upright() -> SignedVector
+    ensures { λ v. ⌜ (v .x ≡ 0) × Bounded v ⌝ }
+{
+    SignedVector {
+        x: 0,
+        y: 1,
+        left: false,
+        up: false,
+    }
+}
+
+// Draws a strip in which all pixels have one color, as along a line to the right, or straight down where it is large: what is faster.
+fn draw_one_color(stops: &[u32], l: Line, z: Strip, buf: &mut [u8])
+    requires { ⌜ Drawable (now stops) l z (length (now buf)) × ((s t : ℕ) → colorIn (now stops) s ≡ colorIn (now stops) t) ⌝ }
+    ensures { λ _. ⌜ now (buf .exit) ≡ patched (now (buf .entry)) 0 (stripOf (now (stops .entry)) l z) ⌝ }
+{
+    if MANY <= z.w * (z.b - z.a) {
+        axisrows::draw_vertical(stops, upright(), z, buf);
+    } else {
+        axisrows::draw_horizontal(stops, level(), z, buf);
+    }
+}
+
+// Draws a strip along a slanted line.
+fn draw_slanted(stops: &[u32], v: SignedVector, z: Strip, buf: &mut [u8])
+    requires { ⌜ Drawable (now stops) (Line.Straight v) z (length (now buf)) ⌝ }
+    ensures { λ _. ⌜ now (buf .exit) ≡ patched (now (buf .entry)) 0 (stripOf (now (stops .entry)) (Line.Straight v) z) ⌝ }
+{
+    let p = straight_plan(stops, v, z);
+    if is_tiny(p) {
+        draw_small_box(p, stops, Line::Straight(v), z, buf);
+    } else if is_medium(p) {
+        draw_medium_box(p, stops, Line::Straight(v), z, buf);
+    } else {
+        draw_large_box(p, stops, Line::Straight(v), z, buf);
+    }
+}
+
+// Draws a strip around a circle's center.
+fn draw_around(stops: &[u32], c: BiasedCenter, z: Strip, buf: &mut [u8])
+    requires { ⌜ Drawable (now stops) (Line.Circle c) z (length (now buf)) ⌝ }
+    ensures { λ _. ⌜ now (buf .exit) ≡ patched (now (buf .entry)) 0 (stripOf (now (stops .entry)) (Line.Circle c) z) ⌝ }
+{
+    let p = circle_plan(c, z);
+    if is_tiny(p) {
+        draw_small_box(p, stops, Line::Circle(c), z, buf);
+    } else if is_medium(p) {
+        draw_medium_box(p, stops, Line::Circle(c), z, buf);
+    } else {
+        draw_large_box(p, stops, Line::Circle(c), z, buf);
+    }
 }
 
 // Draws a strip of any colors.
@@ -354,22 +479,10 @@ fn draw_colors(stops: &[u32], l: Line, z: Strip, buf: &mut [u8])
             } else if v.y == 0 {
                 axisrows::draw_horizontal(stops, v, z, buf);
             } else {
-                let p = straight_plan(v, z, ramp::is_repeated(stops));
-                if is_tiny(p) {
-                    draw_small_box(p, stops, l, z, buf);
-                } else {
-                    draw_large_box(p, stops, l, z, buf);
-                }
+                draw_slanted(stops, v, z, buf);
             }
         }
-        Line::Circle(c) => {
-            let p = circle_plan(c, z);
-            if is_tiny(p) {
-                draw_small_box(p, stops, l, z, buf);
-            } else {
-                draw_large_box(p, stops, l, z, buf);
-            }
-        }
+        Line::Circle(c) => draw_around(stops, c, z, buf),
     }
 }
 
