@@ -1,5 +1,6 @@
 // A ramp: the color of every location, in one lent slice of words. Its head holds the stops: their number, the first location of the table, whether they
-// are repeated, room for 16 positions and for 64 values. The rest is the table, one packed color for each unit; it may be empty. Only this crate knows the order of the words.
+// are repeated, room for 16 positions and for 64 values. The rest is the table, one packed color for each unit; it may be empty. Only this crate knows the
+// order of the words.
 use stops::PlacedStops;
 use table::Stretch;
 ghost use mathlib.Core.Path.{_≡_};

@@ -170,7 +170,8 @@ fn longer(q: usize, period: u32, stride: u32) -> usize
     q
 }
 
-// Fills the table with the colors of the locations from `first` on, `stride` units apart: those of some whole periods, then these again until there are enough, and all of these again.
+// Fills the table with the colors of the locations from `first` on, `stride` units apart: those of some whole periods, these again until they are enough,
+// and all of them again.
 pub fn fill_spaced(t: &mut [u32], positions: &[u32], values: &[u32], first: u32, stride: u32)
     requires { ⌜ Periodic (now positions) (now values) × (0 < stride) × (first + length (now t) * stride ≤ twiceBias) × (length (now t) < mostSteps) ⌝ }
     ensures { λ _. ⌜ Filled (repeatedAt (now (positions .entry)) (now (values .entry)) first stride) (now (t .exit)) × (length (now (t .exit)) ≡ length (now (t .entry))) ⌝ }

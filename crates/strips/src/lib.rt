@@ -224,7 +224,7 @@ fn few_pixels(n: usize, repeated: bool) -> usize {
     }
 }
 
-// How many entries a table has, instead of none: those of one period, where stops are repeated so often that few locations have the same ones around them.
+// How many entries a table has, instead of none: those of a period, where that is short. Without them nearly every pixel would need a stretch of its own.
 fn or_a_period(entries: usize, stops: &[u32]) -> usize
     requires { ⌜ Stops (now stops) × (entries ≤ mostEntries) ⌝ }
     ensures { λ r. ⌜ r ≤ mostEntries ⌝ }

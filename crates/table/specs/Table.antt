@@ -89,7 +89,8 @@ pub record Stretched (color : ℕ → ℕ) (t : Stretch) : Type 0 where
   pub reached : 0 < t .count → Reached values place gap 1 start 0 0 (t .walks)
   pub colors : (k : ℕ) → k < t .count → walkedAt values place gap 1 start 0 k ≡ color (t .first + k)
 
--- a stretch of biased locations begins at `low` or later, and not far away; where `at` is from the first position up to but not including the last, so is all of it
+-- a stretch of biased locations begins at `low` or later, and not far away; where `at` lies from the first position up to but not including the last, so
+-- does all of it
 pub record Near (ps : List ℕ) (at low : ℕ) (t : Stretch) : Type 0 where
   pub not-far : t .first ≤ twiceBias
   pub from-low : 0 < t .count → low ≤ t .first
