@@ -21,21 +21,14 @@ static const char color_allowed[] =
     "  lime, maroon, navy, olive, purple, red, silver, teal, white or yellow";
 static const char position_allowed[] =
     "one number, with at most 3 digits after its point, and px or % at once: 40%, or nothing";
-static const char positions_allowed[] =
-    "one or two numbers, each with at most 3 digits after its point, and px or % at once:\n"
-    "  40%, 0px 15px, or nothing";
-static const char stop_allowed[] =
-    "a color and, if wanted, one or two positions, all after it or all before it, with blanks between:\n"
-    "  red, #ff8000, blue 40%, 12.5px white, lime 0px 15px";
-static const char end_allowed[] = "nothing more: a stop has at most two positions, all after its color or all before it";
+static const char stop_allowed[] = "a color and, after a blank, if wanted a position: red, #ff8000, blue 40%, white 12.5px";
 static const char first_allowed[] =
-    "a direction (to right, to top left, 45deg) or the first stop, a color and if wanted positions (red 40%)";
+    "a direction (to right, to top left, 45deg) or the first stop, a color and if wanted a position (red 40%)";
 static const char stops_allowed[] = "two stops or more, split by commas: red, blue";
 static const char angle_allowed[] = "-3600deg to 3600deg, in steps of a quarter degree: 45deg, 45.25deg, 45.5deg, 45.75deg";
 static const char percentage_allowed[] = "-1000% to 1000%";
 static const char length_allowed[] = "-8192px to 8192px; as the size of a circle, 0px to 8192px";
 static const char sixteen_allowed[] = "16 stops, and no more";
-static const char doubled_allowed[] = "16 stops, and no more; a color with two positions counts as two";
 
 /* ---- notes */
 
@@ -74,30 +67,29 @@ static struct fault *note_in_item(struct findings *f, uint32_t reply, struct sli
 
 /* ---- numbers out of range */
 
-/* The reply with 0 in the place of every number but the one in `word`. */
-static uint32_t reply_to_number(const struct outline *o, size_t index, struct slice item, struct slice word)
+/* The reply with 0 in the place of the number in `word`. */
+static uint32_t reply_with_zero(const struct outline *o, size_t index, struct slice item, struct slice word)
 {
     struct draft d = {{0}, 0};
-    struct slice rest = item, other = first_word(rest);
-    const char *from = item.at, *unit;
-    for (; other.length > 0; rest = rest_after(rest, other), other = first_word(rest)) {
-        for (unit = other.at; other.at != word.at && unit < end_of(other) && is_in_number(*unit); unit++)
-            ;
-        add(&d, between(from, other.at));
-        add_string(&d, unit > other.at ? "0" : "");
-        from = unit;
-    }
-    add(&d, between(from, end_of(item)));
+    const char *unit = word.at;
+    while (unit < end_of(word) && is_in_number(*unit))
+        unit++;
+    add(&d, between(item.at, word.at));
+    add_string(&d, "0");
+    add(&d, between(unit, end_of(item)));
     return reply_at(o, index, drafted(&d));
 }
 
-/* The first number that is out of its range by itself; if there is none, the item. */
+/* The number without which the item is taken; if no single one is, the item. */
 static struct slice number_at_fault(const struct outline *o, size_t index, struct slice item)
 {
     struct slice rest = item, word = first_word(rest);
-    for (; word.length > 0; rest = rest_after(rest, word), word = first_word(rest))
-        if (is_in_number(word.at[0]) && reply_to_number(o, index, item, word) == AVAREZHU_OUT_OF_RANGE)
+    while (word.length > 0) {
+        if (is_in_number(word.at[0]) && reply_with_zero(o, index, item, word) != AVAREZHU_OUT_OF_RANGE)
             return word;
+        rest = rest_after(rest, word);
+        word = first_word(rest);
+    }
     return item;
 }
 
@@ -111,121 +103,44 @@ static void note_range(const struct outline *o, struct findings *f, size_t index
     snprintf(n->words, sizeof n->words, "a number in %s is out of its range", what);
 }
 
-/* ---- stops */
-
-/* Whether the item is a stop with `insert` in the place of `part`. */
-static int is_stop_with(const struct outline *o, struct slice item, struct slice part, const char *insert)
-{
-    struct draft d = {{0}, 0};
-    add(&d, between(item.at, part.at));
-    add_string(&d, insert);
-    add(&d, between(end_of(part), end_of(item)));
-    return is_understood(reply_as_stop(o, drafted(&d)));
-}
-
-/* The first word that does not go on what may be a stop, perhaps with its color still to come; none if only the color
- * is missing. */
-static struct slice wrong_word(const struct outline *o, struct slice item)
-{
-    struct slice rest = item, word = first_word(rest), start;
-    for (; word.length > 0; rest = rest_after(rest, word), word = first_word(rest)) {
-        start = between(item.at, end_of(word));
-        if (!is_understood(reply_as_stop(o, start)) && !is_stop_with(o, start, between(end_of(start), end_of(start)), " red"))
-            break;
-    }
-    return word;
-}
-
-/* The positions that `s` starts with. */
-static struct slice leading_positions(const struct outline *o, struct slice s)
-{
-    struct slice rest = s, word = first_word(rest), last = {s.at, 0};
-    for (; word.length > 0 && are_positions(o, word); rest = rest_after(rest, word), word = first_word(rest))
-        last = word;
-    return between(s.at, end_of(last));
-}
-
-static void note_position(const struct outline *o, struct findings *f, size_t index, struct slice item, struct slice mark,
-                          const char *what)
-{
-    const char *allowed = is_stop_with(o, item, mark, "0 0") ? positions_allowed : position_allowed;
-    struct fault *n = note_in_item(f, AVAREZHU_MALFORMED, mark, allowed, item, index);
-    snprintf(n->words, sizeof n->words, "the position of %s is not taken", what);
-}
-
-/* Marks what stands in a stop that has all it can have, from `tail` on. */
-static void note_end(const struct outline *o, struct findings *f, size_t index, struct slice item, struct slice tail,
-                     const char *what)
-{
-    struct slice positions = leading_positions(o, tail);
-    struct fault *n = note_in_item(f, AVAREZHU_MALFORMED, positions.length > 0 ? positions : tail, end_allowed, item, index);
-    if (positions.length == 0)
-        snprintf(n->words, sizeof n->words, "%s should end before this", what);
-    else if (has_color(o, between(item.at, tail.at)) && are_positions(o, first_word(item)))
-        snprintf(n->words, sizeof n->words, "positions stand on both sides of the color of %s", what);
-    else
-        snprintf(n->words, sizeof n->words, "%s has more than two positions", what);
-}
-
-/* The words of `item` from `word` on that are no positions and stand where positions may: one, all, or all but the
- * last, which is the color. None if there are no such words. */
-static struct slice wrong_positions(const struct outline *o, struct slice item, struct slice word)
-{
-    struct slice last = word, tail = between(word.at, end_of(item));
-    if (is_stop_with(o, item, word, "0"))
-        return word;
-    if (is_stop_with(o, item, tail, "0"))
-        return tail;
-    while (end_of(last) < end_of(item))
-        last = first_word(rest_after(item, last));
-    tail = trimmed(between(word.at, last.at));
-    return is_stop_with(o, item, tail, "0") ? tail : between(word.at, word.at);
-}
-
-/* Marks the words without which the item would be right, or else what may not stand after those before it. */
-static void note_stop(const struct outline *o, struct findings *f, size_t index, struct slice item, const char *what)
-{
-    struct slice word = wrong_word(o, item), positions = wrong_positions(o, item, word);
-    struct fault *n;
-    if (word.length == 0) {
-        n = note_in_item(f, AVAREZHU_MALFORMED, item, stop_allowed, item, index);
-        snprintf(n->words, sizeof n->words, "%s has no color", what);
-    } else if (positions.length > 0) {
-        note_position(o, f, index, item, positions, what);
-    } else if (word.length < item.length && is_stop_with(o, item, word, "red")) {
-        n = note_in_item(f, AVAREZHU_MALFORMED, word, color_allowed, item, index);
-        snprintf(n->words, sizeof n->words, "the color of %s is not taken", what);
-    } else if (are_positions(o, word) || has_color(o, between(item.at, word.at))) {
-        note_end(o, f, index, item, between(word.at, end_of(item)), what);
-    } else {
-        n = note_in_item(f, AVAREZHU_MALFORMED, item, word.length < item.length ? stop_allowed : color_allowed, item, index);
-        snprintf(n->words, sizeof n->words, "%s is not taken", what);
-    }
-}
-
 /* ---- items */
 
 enum kind { HEAD, STOP, EITHER };
 
-/* What an item is meant to be that begins with a number. */
-static enum kind kind_of_numbers(const struct outline *o, struct slice item)
-{
-    struct slice word = wrong_word(o, item);
-    if (has_color(o, item) || (word.at > item.at && first_word(item).length < item.length))
-        return STOP;
-    return word.length == 0 && !is_number(item) ? EITHER : HEAD;
-}
-
 static enum kind kind_of_first(const struct outline *o)
 {
     struct slice item = trimmed(o->items[0]), word = first_word(item);
-    if (is_understood(reply_as_stop(o, item)) || is_color(o, word) || starts_with(word, "#"))
+    if (is_understood(reply_as_stop(o, item)) || reply_as_stop(o, word) == AVAREZHU_DONE || starts_with(word, "#"))
         return STOP;
-    if (is_understood(reply_at(o, 0, item)) || o->is_head_asked || equals(word, "to") || is_understood(reply_at(o, 0, word)))
+    if (is_understood(reply_at(o, 0, item)) || o->is_head_asked || equals(word, "to") ||
+        (word.length > 0 && is_in_number(word.at[0])))
         return HEAD;
-    if (word.length > 0 && is_in_number(word.at[0]))
-        return kind_of_numbers(o, item);
-    return word.length < item.length && is_stop_with(o, item, word, "red") ? STOP : EITHER;
+    return EITHER;
+}
+
+static int is_stop_with_red(const struct outline *o, struct slice rest)
+{
+    struct draft d = {{0}, 0};
+    add_string(&d, "red ");
+    add(&d, rest);
+    return is_understood(reply_as_stop(o, drafted(&d)));
+}
+
+/* Marks the color or what follows it, if the other of the two is right. */
+static void note_stop(const struct outline *o, struct findings *f, size_t index, struct slice item, const char *what)
+{
+    struct slice color = first_word(item), rest = rest_after(item, color);
+    struct fault *n;
+    if (rest.length > 0 && reply_as_stop(o, color) == AVAREZHU_DONE) {
+        n = note_in_item(f, AVAREZHU_MALFORMED, rest, position_allowed, item, index);
+        snprintf(n->words, sizeof n->words, "the position of %s is not taken", what);
+    } else if (rest.length > 0 && is_stop_with_red(o, rest)) {
+        n = note_in_item(f, AVAREZHU_MALFORMED, color, color_allowed, item, index);
+        snprintf(n->words, sizeof n->words, "the color of %s is not taken", what);
+    } else {
+        n = note_in_item(f, AVAREZHU_MALFORMED, item, rest.length > 0 ? stop_allowed : color_allowed, item, index);
+        snprintf(n->words, sizeof n->words, "%s is not taken", what);
+    }
 }
 
 static void note_head(const struct outline *o, struct findings *f, struct slice item, enum kind kind)
@@ -264,55 +179,9 @@ static void look_at(const struct outline *o, struct findings *f, size_t index, e
         note_stop(o, f, index, item, what);
 }
 
-static int are_in_grammar(const struct outline *o)
-{
-    size_t i;
-    for (i = 0; i < o->count; i++)
-        if (trimmed(o->items[i]).length == 0 || reply_at(o, i, trimmed(o->items[i])) == AVAREZHU_MALFORMED)
-            return 0;
-    return 1;
-}
-
-/* Notes that there is one stop or none, be it one with two positions. */
-static void note_few(const struct outline *o, struct findings *f, size_t heads)
-{
-    size_t last = o->count - 1;
-    struct slice stop = trimmed(o->items[last]);
-    struct fault *n;
-    if (o->count > heads && stops_in(o, stop) > 1) {
-        n = note_in_item(f, AVAREZHU_MALFORMED, stop, stops_allowed, stop, last);
-        snprintf(n->words, sizeof n->words, "this stop counts as two, but it is the only one that is written");
-    } else {
-        note_words(f, trimmed(o->items[0]), heads == 1 ? "fewer than two stops follow" : "this stop is the only one",
-                   stops_allowed);
-    }
-}
-
-/* Notes the item with which there are too many stops. */
-static void note_many(const struct outline *o, struct findings *f, size_t heads)
-{
-    size_t i, at = o->count, last = 0, total = 0;
-    struct fault *n;
-    for (i = heads; i < o->count; i++) {
-        total += stops_in(o, trimmed(o->items[i]));
-        if (at == o->count && total > AVAREZHU_STOPS_MAX) {
-            at = i;
-            last = total;
-        }
-    }
-    if (at == o->count)
-        return;
-    n = note_in_item(f, AVAREZHU_TOO_MANY_STOPS, trimmed(o->items[at]),
-                     total == o->count - heads ? sixteen_allowed : doubled_allowed, trimmed(o->items[at]), at);
-    if (stops_in(o, n->item) > 1)
-        snprintf(n->words, sizeof n->words, "these are stops %zu and %zu of %zu", last - 1, last, total);
-    else
-        snprintf(n->words, sizeof n->words, "this is stop %zu of %zu", last, total);
-}
-
 static void look_at_items(const struct outline *o, struct findings *f)
 {
-    size_t i, heads;
+    size_t i, found = f->count, heads;
     enum kind kind = kind_of_first(o);
     heads = kind == HEAD ? 1 : 0;
     if (o->count == 1 && trimmed(o->items[0]).length == 0) {
@@ -321,10 +190,14 @@ static void look_at_items(const struct outline *o, struct findings *f)
     }
     for (i = 0; i < o->count; i++)
         look_at(o, f, i, kind, heads);
-    if (o->count - heads < 2 && are_in_grammar(o))
-        note_few(o, f, heads);
-    if (f->reply == AVAREZHU_TOO_MANY_STOPS)
-        note_many(o, f, heads);
+    if (f->count == found && o->count - heads < 2)
+        note_words(f, trimmed(o->items[0]), heads == 1 ? "fewer than two stops follow" : "this stop is the only one",
+                   stops_allowed);
+    if (f->count == found && f->reply == AVAREZHU_TOO_MANY_STOPS && o->count > AVAREZHU_STOPS_MAX + heads) {
+        i = AVAREZHU_STOPS_MAX + heads;
+        snprintf(note_in_item(f, f->reply, trimmed(o->items[i]), sixteen_allowed, trimmed(o->items[i]), i)->words,
+                 sizeof f->first.words, "this is stop %zu of %zu", i + 1 - heads, o->count - heads);
+    }
 }
 
 /* ---- the whole text */

@@ -12,7 +12,7 @@ struct fault {
     struct slice mark;   /* what is at fault */
     struct slice item;   /* the item that it is in; the mark itself if it is in none */
     size_t index;        /* of that item, or NO_ITEM */
-    char words[128];     /* what is wrong, as a sentence without its start and end */
+    char words[96];      /* what is wrong, as a sentence without its start and end */
     const char *allowed; /* what may stand there */
 };
 

@@ -291,15 +291,6 @@ static int hint_of_words(FILE *to, struct slice item)
     return 0;
 }
 
-static int hint_of_digits(FILE *to, struct slice item)
-{
-    struct slice word = first_word(item);
-    for (; word.length > 0; item = rest_after(item, word), word = first_word(item))
-        if (hint_of_digit(to, word))
-            return 1;
-    return 0;
-}
-
 /* ---- all of them */
 
 static int hint_of_surroundings(FILE *to, const struct outline *o, const struct fault *f)
@@ -326,5 +317,5 @@ int give_hint(FILE *to, const struct outline *o, const struct fault *f)
     if (f->index == NO_ITEM)
         return hint_of_surroundings(to, o, f) || give_repair(to, o, f);
     return hint_of_part(to, f->item, words_in_items, COUNT(words_in_items)) || hint_of_rgb(to, f->item) ||
-           hint_of_words(to, f->item) || give_repair(to, o, f) || hint_of_digits(to, f->item);
+           hint_of_words(to, f->item) || give_repair(to, o, f) || hint_of_digit(to, first_word(f->item));
 }

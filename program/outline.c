@@ -6,19 +6,13 @@
 
 /* ---- texts that are right but for one part */
 
-static struct draft draft_of(struct slice name, const char *before, struct slice item, const char *after)
+static uint32_t reply_to_parts(struct slice name, const char *before, struct slice item, const char *after)
 {
     struct draft d = {{0}, 0};
     add(&d, name);
     add_string(&d, before);
     add(&d, item);
     add_string(&d, after);
-    return d;
-}
-
-static uint32_t reply_to_parts(struct slice name, const char *before, struct slice item, const char *after)
-{
-    struct draft d = draft_of(name, before, item, after);
     return reply_to(drafted(&d));
 }
 
@@ -28,44 +22,9 @@ uint32_t reply_at(const struct outline *o, size_t index, struct slice item)
     return reply == AVAREZHU_LONG_TEXT ? reply_as_stop(o, item) : reply;
 }
 
-/* What stands before an item that is the second stop. */
-static const char *before_second(const struct outline *o)
-{
-    return o->is_head_asked ? "(circle,red," : "(red,";
-}
-
 uint32_t reply_as_stop(const struct outline *o, struct slice item)
 {
-    return reply_to_parts(o->name, before_second(o), item, ")");
-}
-
-size_t stops_in(const struct outline *o, struct slice item)
-{
-    struct draft d = draft_of(o->name, before_second(o), item, ")");
-    avarezhu_gradient g;
-    return avarezhu_read(d.bytes, d.length, (uint8_t *)&g, sizeof g) == AVAREZHU_DONE ? g.count - 1 : 1;
-}
-
-int is_color(const struct outline *o, struct slice word)
-{
-    return reply_as_stop(o, word) == AVAREZHU_DONE;
-}
-
-int has_color(const struct outline *o, struct slice words)
-{
-    struct slice rest = trimmed(words), word = first_word(rest);
-    for (; word.length > 0; rest = rest_after(rest, word), word = first_word(rest))
-        if (is_color(o, word))
-            return 1;
-    return 0;
-}
-
-int are_positions(const struct outline *o, struct slice words)
-{
-    struct draft d = {{0}, 0};
-    add_string(&d, "red ");
-    add(&d, words);
-    return words.length > 0 && is_understood(reply_as_stop(o, drafted(&d)));
+    return reply_to_parts(o->name, o->is_head_asked ? "(circle,red," : "(red,", item, ")");
 }
 
 static uint32_t reply_with_body(struct slice name, const char *body)

@@ -29,14 +29,6 @@ void outline(struct outline *o, struct slice text);
 uint32_t reply_at(const struct outline *o, size_t index, struct slice item);
 uint32_t reply_as_stop(const struct outline *o, struct slice item);
 
-/* How many stops such an item is, as the library counts them; 1 if it is refused. */
-size_t stops_in(const struct outline *o, struct slice item);
-
-/* Whether a word is a color, whether one of several is, and whether they are all that may stand after a color. */
-int is_color(const struct outline *o, struct slice word);
-int has_color(const struct outline *o, struct slice words);
-int are_positions(const struct outline *o, struct slice words);
-
 /* The reply to a text that is right but for the function's name. */
 uint32_t reply_to_name(struct slice name);
 

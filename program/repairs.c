@@ -30,18 +30,15 @@ static int offer_insert(FILE *to, const struct outline *o, const struct fault *f
     return offer(to, o, f, words, &d);
 }
 
-/* `insert` in the place of each run of white space in turn, from the last to the first: where a position stands
- * between two colors, it is more often meant for the one before it. */
+/* `insert` in the place of each run of white space in turn. */
 static int offer_at_blanks(FILE *to, const struct outline *o, const struct fault *f, const char *words, const char *insert)
 {
-    const char *at = end_of(f->item), *end;
-    while (at > f->item.at) {
-        for (end = at; at > f->item.at && is_space(at[-1]); at--)
+    const char *at, *end;
+    for (at = f->item.at; at < end_of(f->item); at = end + 1) {
+        for (end = at; end < end_of(f->item) && is_space(*end); end++)
             ;
-        if (at < end && offer_insert(to, o, f, words, at, end, insert))
+        if (end > at && offer_insert(to, o, f, words, at, end, insert))
             return 1;
-        if (at > f->item.at)
-            at--;
     }
     return 0;
 }
@@ -68,8 +65,6 @@ static void add_joined(struct draft *d, struct slice s, const char *insert)
 static int comma_missing(FILE *to, const struct outline *o, const struct fault *f)
 {
     struct draft d = {{0}, 0};
-    if (is_understood(reply_as_stop(o, f->item)))
-        return 0;
     if (offer_at_blanks(to, o, f, "a comma is missing", ", "))
         return 1;
     add_joined(&d, f->item, ", ");
@@ -85,96 +80,73 @@ static int other_comma(FILE *to, const struct outline *o, const struct fault *f)
            offer_insert(to, o, f, "take the ; out", at, at + 1, "");
 }
 
-/* One of the blanks, or else each between a bare number and what may be its unit. */
 static int blank_too_many(FILE *to, const struct outline *o, const struct fault *f)
 {
-    struct draft d = {{0}, 0};
-    struct slice rest = f->item, word = first_word(rest);
-    if (offer_at_blanks(to, o, f, "one blank is too many", ""))
-        return 1;
-    for (; word.length > 0; word = first_word(rest)) {
-        rest = rest_after(rest, word);
-        add(&d, word);
-        add_string(&d, rest.length == 0 || (is_number(word) && !is_in_number(rest.at[0])) ? "" : " ");
-    }
-    return offer(to, o, f, "no blank stands before a unit", &d);
+    return offer_at_blanks(to, o, f, "one blank is too many", "");
+}
+
+static int blank_missing(FILE *to, const struct outline *o, const struct fault *f)
+{
+    const char *at;
+    for (at = f->item.at + 1; at < end_of(f->item); at++)
+        if (offer_insert(to, o, f, "a blank is missing", at, at, " "))
+            return 1;
+    return 0;
 }
 
 /* ---- numbers and their units */
 
-/* The item with a unit after the number `word`, or after every bare number if `word` is empty. */
-static struct draft with_unit(struct slice item, struct slice word, const char *unit)
+static int is_bare_number(struct slice word)
 {
-    struct draft d = {{0}, 0};
-    struct slice rest = item, other = first_word(rest);
-    const char *from = item.at;
-    for (; other.length > 0; rest = rest_after(rest, other), other = first_word(rest))
-        if (word.length > 0 ? other.at == word.at : is_number(other)) {
-            add(&d, between(from, end_of(other)));
-            add_string(&d, unit);
-            from = end_of(other);
-        }
-    add(&d, between(from, end_of(item)));
-    return d;
-}
-
-/* Shows the item with each unit that is taken there. So many were shown before, and are then. */
-static int show_units(FILE *to, const struct outline *o, const struct fault *f, struct slice word, int shown)
-{
-    static const char *const units[] = {"px", "%", "deg"};
     size_t i;
-    for (i = 0; i < 3; i++) {
-        struct draft d = with_unit(f->item, word, units[i]);
-        if (!is_understood(reply_at(o, f->index, drafted(&d))))
-            continue;
-        fputs(shown++ > 0 ? " or " : "Hint: a number has its unit with it: ", to);
-        show_part(to, drafted(&d));
-    }
-    return shown;
+    for (i = 0; i < word.length; i++)
+        if (!is_in_number(word.at[i]))
+            return 0;
+    return word.length > 0;
 }
 
-/* One bare number with its unit, or else all of them with the same one. */
+/* Each bare number with each unit that is taken after it. */
 static int unit_missing(FILE *to, const struct outline *o, const struct fault *f)
 {
+    static const char *const units[] = {"px", "%", "deg"};
     struct slice rest = f->item, word = first_word(rest);
-    int shown = 0;
+    size_t i;
+    int taken = 0;
     for (; word.length > 0; rest = rest_after(rest, word), word = first_word(rest))
-        if (is_number(word))
-            shown = show_units(to, o, f, word, shown);
-    if (shown == 0)
-        shown = show_units(to, o, f, word, 0);
-    if (shown > 0)
+        for (i = 0; i < 3 && is_bare_number(word); i++) {
+            struct draft d = {{0}, 0};
+            add(&d, between(f->item.at, end_of(word)));
+            add_string(&d, units[i]);
+            add(&d, between(end_of(word), end_of(f->item)));
+            if (!is_understood(reply_at(o, f->index, drafted(&d))))
+                continue;
+            fputs(taken++ > 0 ? " or " : "Hint: a number has its unit with it: ", to);
+            show_part(to, drafted(&d));
+        }
+    if (taken > 0)
         fputc('\n', to);
-    return shown > 0;
+    return taken > 0;
 }
 
-/* Numbers cut after three digits behind their points. */
+/* A number cut after three digits behind its point. */
 static int digits_too_many(FILE *to, const struct outline *o, const struct fault *f)
 {
-    struct draft d = {{0}, 0};
-    const char *from = f->item.at, *point, *end;
-    for (point = from; point < end_of(f->item); point++) {
+    const char *point, *end;
+    for (point = f->item.at; point < end_of(f->item); point++) {
         for (end = point + 1; end < end_of(f->item) && is_digit(*end); end++)
             ;
-        if (*point == '.' && end > point + 4) {
-            add(&d, between(from, point + 4));
-            from = end;
-        }
+        if (*point == '.' && end > point + 4 &&
+            offer_insert(to, o, f, "at most three digits stand after a point", point + 4, end, ""))
+            return 1;
     }
-    add(&d, between(from, end_of(f->item)));
-    return d.length < f->item.length && offer(to, o, f, "at most three digits stand after a point", &d);
+    return 0;
 }
 
 /* ---- stops */
 
-/* A # before each word in turn. */
 static int number_sign_missing(FILE *to, const struct outline *o, const struct fault *f)
 {
-    struct slice rest = f->item, word = first_word(rest);
-    for (; word.length > 0; rest = rest_after(rest, word), word = first_word(rest))
-        if (offer_insert(to, o, f, "a # is missing", word.at, word.at, "#"))
-            return 1;
-    return 0;
+    return offer_before(to, o, f, "a # is missing", "#");
 }
 
 /* Two neighboring words swapped. */
@@ -196,143 +168,28 @@ static int order_wrong(FILE *to, const struct outline *o, const struct fault *f)
     return 0;
 }
 
-/* A stop taken apart. */
-struct parts {
-    struct slice color;
-    struct slice others[4]; /* its other words, in their order */
-    size_t before;          /* so many of them stand before the color */
-    size_t count;
-};
-
-/* 0 if not just one of the words is a color, or if there are more others than two stops have. */
-static int take_apart(const struct outline *o, struct slice item, struct parts *p)
-{
-    struct slice rest = item, word = first_word(rest);
-    memset(p, 0, sizeof *p);
-    for (; word.length > 0; rest = rest_after(rest, word), word = first_word(rest)) {
-        int is_other = !is_color(o, word);
-        if (is_other ? p->count == 4 : p->color.length > 0)
-            return 0;
-        if (is_other) {
-            p->others[p->count++] = word;
-        } else {
-            p->color = word;
-            p->before = p->count;
-        }
-    }
-    return p->color.length > 0;
-}
-
-/* Adds the color, and after it the other words from number `from` up to `end`. */
-static void add_stop(struct draft *d, const struct parts *p, size_t from, size_t end)
-{
-    add(d, p->color);
-    for (; from < end; from++) {
-        add_string(d, " ");
-        add(d, p->others[from]);
-    }
-}
-
-static int both_sides(FILE *to, const struct outline *o, const struct fault *f)
+static int two_positions(FILE *to, const struct outline *o, const struct fault *f)
 {
     struct draft d = {{0}, 0};
-    struct parts p;
-    if (!take_apart(o, f->item, &p) || p.before == 0 || p.before == p.count)
-        return 0;
-    add_stop(&d, &p, 0, p.count);
-    return offer(to, o, f, "both positions stand on one side of the color", &d);
-}
-
-/* The words of `item` as two stops of its color, the first with so many positions. */
-static int offer_two_stops(FILE *to, const struct outline *o, const struct fault *f, const char *words, struct slice item,
-                           size_t first)
-{
-    struct draft d = {{0}, 0};
-    struct parts p;
-    if (!take_apart(o, item, &p) || p.count <= first)
-        return 0;
-    add_stop(&d, &p, 0, first);
+    struct slice color = first_word(f->item), rest = rest_after(f->item, color), first = first_word(rest);
+    add(&d, color);
+    add_string(&d, " ");
+    add(&d, first);
     add_string(&d, ", ");
-    add_stop(&d, &p, first, p.count);
-    return offer(to, o, f, words, &d);
+    add(&d, color);
+    add_string(&d, " ");
+    add(&d, rest_after(rest, first));
+    return offer(to, o, f, "a stop has one position; write two stops", &d);
 }
 
-static int three_positions(FILE *to, const struct outline *o, const struct fault *f)
-{
-    return offer_two_stops(to, o, f, "perhaps two stops are meant", f->item, 2);
-}
-
-/* A stop that is right and the only one. */
-static int stop_alone(FILE *to, const struct outline *o, const struct fault *f)
-{
-    return offer_two_stops(to, o, f, "write it as two stops", f->item, 1);
-}
-
-static int blank_missing(FILE *to, const struct outline *o, const struct fault *f)
-{
-    const char *at;
-    for (at = end_of(f->item); at > f->item.at; at--)
-        if (offer_insert(to, o, f, "a blank is missing", at, at, " "))
-            return 1;
-    for (at = end_of(f->item); at > f->item.at; at--) {
-        struct draft d = {{0}, 0};
-        add(&d, between(f->item.at, at));
-        add_string(&d, " ");
-        add(&d, between(at, end_of(f->item)));
-        if (offer_two_stops(to, o, f, "a blank is missing, and perhaps two stops are meant", drafted(&d), 2))
-            return 1;
-    }
-    return 0;
-}
-
-static int is_angle(struct slice word)
-{
-    struct draft d = {{0}, 0};
-    add_string(&d, "linear-gradient(");
-    add(&d, word);
-    add_string(&d, ",red,red)");
-    return word.length > 0 && is_in_number(word.at[0]) && is_understood(reply_to(drafted(&d)));
-}
-
-/* An angle that an item begins with may be a direction, if it is the first item. */
-static int angle_in_stop(FILE *to, const struct outline *o, const struct fault *f)
-{
-    struct slice rest = f->item, word = first_word(rest);
-    if (!has_color(o, f->item) || (f->index == 0 && is_angle(word)))
-        return 0;
-    for (; word.length > 0; rest = rest_after(rest, word), word = first_word(rest))
-        if (is_angle(word)) {
-            fputs("Hint: an angle is not a position; a position is in px or %.\n", to);
-            return 1;
-        }
-    return 0;
-}
-
-/* The item beside the one before it or after it, if the two are one stop. */
-static int comma_too_many(FILE *to, const struct outline *o, const struct fault *f)
-{
-    size_t i, first = f->index > 0 ? f->index - 1 : 0;
-    for (i = first; i <= f->index && i + 1 < o->count; i++) {
-        struct draft d = {{0}, 0};
-        add(&d, trimmed(o->items[i]));
-        add_string(&d, " ");
-        add(&d, trimmed(o->items[i + 1]));
-        if (offer(to, o, f, "no comma stands between a color and its positions", &d))
-            return 1;
-    }
-    return 0;
-}
-
-/* One position between two stops is a color hint of CSS. Others are cut from their color by a comma. */
 static int color_missing(FILE *to, const struct outline *o, const struct fault *f)
 {
-    int is_one = first_word(f->item).length == f->item.length;
-    if ((f->index == 0 && o->is_head_asked) || !are_positions(o, f->item))
+    struct draft d = {{0}, 0};
+    add_string(&d, "red ");
+    add(&d, f->item);
+    if (f->index == 0 || !is_understood(reply_as_stop(o, drafted(&d))))
         return 0;
-    if (f->index > 0 && is_one)
-        fputs("Hint: a position alone, a color hint, is not taken; every stop has a color.\n", to);
-    else if (!comma_too_many(to, o, f))
-        fputs("Hint: positions alone are not taken; every stop has a color.\n", to);
+    fputs("Hint: a position alone, a color hint, is not taken; every stop has a color.\n", to);
     return 1;
 }
 
@@ -468,16 +325,13 @@ static int name_wrong(FILE *to, const struct outline *o, const struct fault *f)
 int give_repair(FILE *to, const struct outline *o, const struct fault *f)
 {
     static int (*const repairs[])(FILE *, const struct outline *, const struct fault *) = {
-        comma_missing,  other_comma,       unit_missing, belongs_first,  color_missing,
-        both_sides,     three_positions,   order_wrong,  angle_in_stop,  digits_too_many,
-        blank_missing,  misspelled,        to_missing,   circle_missing, number_sign_missing,
-        blank_too_many, belongs_elsewhere,
+        comma_missing, other_comma,   belongs_first,  color_missing,       order_wrong,     two_positions,  unit_missing,
+        misspelled,    to_missing,    circle_missing, number_sign_missing, digits_too_many, blank_too_many, belongs_elsewhere,
+        blank_missing,
     };
     size_t i;
     if (f->index == NO_ITEM)
         return name_wrong(to, o, f);
-    if (is_understood(reply_at(o, f->index, f->item)))
-        return stop_alone(to, o, f);
     for (i = 0; i < sizeof repairs / sizeof *repairs; i++)
         if (repairs[i](to, o, f))
             return 1;

@@ -70,15 +70,6 @@ struct slice first_word(struct slice s)
     return s;
 }
 
-int is_number(struct slice word)
-{
-    size_t i;
-    for (i = 0; i < word.length; i++)
-        if (!is_in_number(word.at[i]))
-            return 0;
-    return word.length > 0;
-}
-
 struct slice rest_after(struct slice s, struct slice part)
 {
     return trimmed(between(end_of(part), end_of(s)));

@@ -29,9 +29,6 @@ struct slice trimmed(struct slice s);
 /* The part before the first white space that is in no brackets. */
 struct slice first_word(struct slice s);
 
-/* Digits, signs and points, and nothing else. */
-int is_number(struct slice word);
-
 /* What follows a part that `s` starts with, trimmed. */
 struct slice rest_after(struct slice s, struct slice part);
 

@@ -25,14 +25,8 @@ def recipe(line):
 
 
 def recipes():
-    """Each recipe as it is written in recipes.txt, without the second text that some have."""
-    return [line.partition(" | ")[0] for line in lines("recipes.txt")]
-
-
-def color_first():
-    """The second text of each recipe that has one: the same picture, with every color before its positions."""
-    split = [line.split(" | ") for line in lines("recipes.txt")]
-    return {recipe: text for recipe, *second in split for text in second}
+    """Each recipe as it is written in recipes.txt."""
+    return list(lines("recipes.txt"))
 
 
 def plain(written):

@@ -99,27 +99,6 @@ REPEATING_STRIPS = [
     (2, 2, 1, 1, 8, "repeating-linear-gradient(red, blue)"),
 ]
 
-# As CHARTS: stops with two positions, and with positions before the color.
-POSITIONS = [
-    (8, 1, 32, "linear-gradient(to right, red 0 4px, blue 4px 8px)"),
-    (1, 16, 64, "linear-gradient(red 0 15px, blue)"),
-    (8, 1, 32, "linear-gradient(to left, #f008 25% 50%, lime, blue 75% 7px)"),
-    (8, 1, 36, "linear-gradient(to right, red 6px 2px, lime 1px 4px, blue)"),
-    (4, 4, 64, "radial-gradient(circle at 0 0, red 20% 2px, #00f8 3px 4px)"),
-    (16, 1, 64, "linear-gradient(90deg,red 0 1px,lime 2px 3px,blue 4px 5px,aqua 6px 7px,gray 8px 9px,navy 10px 11px,teal 12px 13px,white 14px 15px)"),
-    (1, 4, 16, "linear-gradient(0 red, blue)"),
-    (8, 1, 32, "linear-gradient(to right, 1px 50% red, 75% blue)"),
-    (4, 4, 64, "radial-gradient(2px, 0 10% red, 1px lime, blue 80% 90%)"),
-    (16, 1, 64, "repeating-linear-gradient(to right, black 0 2px, 2px 5px white)"),
-    (4, 4, 64, "repeating-radial-gradient(circle, 0 .5px red, #00f8 .5px 1px)"),
-    (2, 2, 16, "repeating-linear-gradient(red 3px 1px, 2px blue)"),
-    (1, 1, 6, "linear-gradient(red 0 15px)"),
-    (1, 1, 6, "linear-gradient(0 red 15px, blue)"),
-    (1, 1, 6, "linear-gradient(0deg red, blue)"),
-    (1, 1, 6, "radial-gradient(circle, red 0 8193px, blue)"),
-    (1, 1, 6, "linear-gradient(red 0 0,red 0 0,red 0 0,red 0 0,red 0 0,red 0 0,red 0 0,red 0 0,blue)"),
-]
-
 # What the documents themselves say of four of them (P1, P2, P9 and T-01's average): the bytes from the start on.
 STATED = {
     CHARTS[0]: [32, 32, 32, 255, 96, 96, 96, 255, 159, 159, 159, 255, 223, 223, 223, 255],
@@ -280,7 +259,6 @@ def lines():
     yield from cut(STRIPS)
     yield from whole(REPEATING)
     yield from cut(REPEATING_STRIPS)
-    yield from whole(POSITIONS)
 
 
 def main():
@@ -295,7 +273,7 @@ def main():
     if differing or len(found) != len(expected):
         print(f"drawing: {len(differing)} lines differ; {len(found)} lines from the rules, {len(expected)} in the file")
         return 1
-    print(f"drawing: {len(CHARTS + REPEATING + POSITIONS)} charts and {len(STRIPS + REPEATING_STRIPS)} strips agree")
+    print(f"drawing: {len(CHARTS + REPEATING)} charts and {len(STRIPS + REPEATING_STRIPS)} strips agree")
     return 0
 
 

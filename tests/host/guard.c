@@ -395,25 +395,6 @@ static const struct chart round_again = {
     0, {0, 0, 0, 0}, {4, 8, 12, 64}, 0,
 };
 
-#define PAIR(at) [at] = 16, 32, 48, 64, 1, [(at) + 16] = 16, 32, 48, 64, 1, 0, 0, 0, 0xe8, 0x03, 0, 0 /* 1000 */
-#define PAIR_PLACED(at) [at] = 16, 32, 48, 64, 64, 0, 0, 0, [(at) + 8] = 16, 32, 48, 64, 64, 0, 0, 0
-#define FOUR_TWICE "#10203040 0 1px, 0 1px #10203040, #10203040 0 1px, 0 1px #10203040"
-
-/* Eight stops written, each for two: 16, all but the first at 64 units. */
-static const struct chart pairs = {
-    "linear-gradient(90deg, " FOUR_TWICE ", " FOUR_TWICE ")",
-    {
-        [0] = 16, [12] = 8, [16] = 0x90, 0x5f, 0x01, 0x00,                               /* 90000 */
-        PAIR(64), PAIR(96), PAIR(128), PAIR(160), PAIR(192), PAIR(224), PAIR(256), PAIR(288),
-    },
-    {
-        [0] = 16, [4] = 16, 32, 48, 64, 0, 0, 0, 0, 16, 32, 48, 64, 64, 0, 0, 0,
-        PAIR_PLACED(20), PAIR_PLACED(36), PAIR_PLACED(52), PAIR_PLACED(68), PAIR_PLACED(84), PAIR_PLACED(100),
-        PAIR_PLACED(116),
-    },
-    0, {0, 0, 0, 0}, {4, 8, 12, 64}, 0,
-};
-
 static uint8_t picture[4 * AVAREZHU_SIDE_MAX * AVAREZHU_SIDE_MAX];
 static uint8_t file[63 + (6 + 3 * AVAREZHU_SIDE_MAX) * AVAREZHU_SIDE_MAX];
 
@@ -538,29 +519,6 @@ static const struct text texts[] = {
     {TEXT("repeating-radial-gradient(red 2px, white 2px)"), 4, NULL},
     {TEXT("repeating-radial-gradient(circle -1px, red, blue)"), 5, NULL},
     {TEXT("repeating-linear-gradient(" EIGHT ", " EIGHT ", red)"), 6, NULL},
-    {TEXT("linear-gradient(90deg, 2px red, 2px blue)"), 0, &angled},
-    {TEXT("linear-gradient(90.0DEG,+2PX\nRed\t,\f2.000px\r#00F)"), 0, &angled},
-    {TEXT("radial-gradient(circle 3px at 25% -1.5px, #10203040, 100% #10203040)"), 0, &round_one},
-    {TEXT("repeating-linear-gradient(90deg, red -2px -1px, blue -1px 0)"), 0, &bars},
-    {TEXT("repeating-linear-gradient(90deg, -2px -1px red, -1px 0 blue)"), 0, &bars},
-    {TEXT("REPEATING-linear-gradient(90deg,-2PX\f-1PX\nRED,#00F\t-1px\r-.0)"), 0, &bars},
-    {TEXT("linear-gradient(90deg, " FOUR_TWICE ", " FOUR_TWICE ")"), 0, &pairs},
-    {TEXT("linear-gradient(90deg, " FOUR_TWICE ", " FOUR_TWICE ", red)"), 6, NULL},
-    {TEXT("radial-gradient(circle, " FOUR_TWICE ", 0 red, " FOUR_TWICE ")"), 6, NULL},
-    {TEXT("linear-gradient(" FOUR_TWICE ", " FOUR_TWICE ", red 0 8192.001px)"), 5, NULL},
-    {TEXT("linear-gradient(" FOUR_TWICE ", " FOUR_TWICE ", 0 -1000.001% red)"), 5, NULL},
-    {TEXT("linear-gradient(" FOUR_TWICE ", " FOUR_TWICE ", red 0 9000px"), 4, NULL},
-    {TEXT("linear-gradient(" FOUR_TWICE ", " FOUR_TWICE ", 0 red 1px)"), 4, NULL},
-    {TEXT("linear-gradient(red 0 15px)"), 4, NULL},
-    {TEXT("radial-gradient(circle, 0 15px red)"), 4, NULL},
-    {TEXT("linear-gradient(0 red 15px, blue)"), 4, NULL},
-    {TEXT("linear-gradient(red, blue 0 15px 20px)"), 4, NULL},
-    {TEXT("linear-gradient(0 15px 20px red, blue)"), 4, NULL},
-    {TEXT("linear-gradient(red, blue, 0 15px)"), 4, NULL},
-    {TEXT("linear-gradient(red, 0 15pxblue)"), 4, NULL},
-    {TEXT("linear-gradient(0deg red, blue)"), 4, NULL},
-    {TEXT("linear-gradient(0, red, blue)"), 4, NULL},
-    {TEXT("linear-gradient(-8192.001px 0 red, blue)"), 5, NULL},
     {TEXT("linear-gradient(90deg, red 2px, blue 2px)\0"), 4, NULL},
     {TEXT("linear-gradient(90deg, red 2px, blue 2px"), 4, NULL},
     {TEXT("linear-gradient(red)"), 4, NULL},
@@ -651,9 +609,6 @@ static void try_prefixes(void)
         TEXT("RADIAL-GRADIENT(\tCIRCLE\n,\rWHITE\f0PX,SILVER 100%\t)"),
         TEXT("repeating-linear-gradient(90deg, red -2px, red -1px, blue -1px, blue 0)"),
         TEXT("Repeating-Radial-Gradient(5px, navy, teal 0.016px)"),
-        TEXT("linear-gradient(0 15px red, 20% blue, #0f0 25.5% -3px)"),
-        TEXT("Repeating-Radial-Gradient(0\n,\t0\f+.5px\rTEAL,NAVY\n0\t0)"),
-        TEXT("linear-gradient(" FOUR_TWICE ", " FOUR_TWICE ", 0 0 red)"),
     };
     static const enum export exports[] = {READ, PLACE, DRAW, DRAW_ROWS, PNG};
     for (size_t i = 0; i < COUNT(whole); i++)
@@ -755,20 +710,12 @@ static void try_strips(void)
         {TEXT("linear-gradient(45.1deg, red, blue)"), 5, NULL},
         {TEXT("linear-gradient(" EIGHT ", " EIGHT ", red)"), 6, NULL},
         {TEXT("repeating-linear-gradient(" EIGHT ", " EIGHT ", red)"), 6, NULL},
-        {TEXT("linear-gradient(" FOUR_TWICE ", " FOUR_TWICE ", red)"), 6, NULL},
-        {TEXT("linear-gradient(" FOUR_TWICE ", " FOUR_TWICE ", 9000px 0 red)"), 5, NULL},
-        {TEXT("linear-gradient(" FOUR_TWICE ", " FOUR_TWICE ", red 0 1px 2px)"), 4, NULL},
-        {TEXT("linear-gradient(red 0 15px)"), 4, NULL},
     };
     static const size_t lengths[] = {0, 1, 319, 321, 400};
     for (size_t k = 0; k < COUNT(boxes); k++) {
         try_chart_rows(boxes[k], &downward);
         try_chart_rows(boxes[k], &bars_down);
         try_chart_rows(boxes[k], &no_period);
-        try_chart_rows(boxes[k], &pairs);
-        try_text_rows(boxes[k], (struct bytes)TEXT("linear-gradient(180deg, 2px red, 2px 2px blue)"), &downward, 0);
-        try_text_rows(boxes[k], (struct bytes)TEXT("repeating-linear-gradient(180deg, red -2px -1px, -1px 0 blue)"),
-                      &bars_down, 0);
     }
     for (size_t k = 0; k < COUNT(few); k++) {
         for (size_t i = 0; i < COUNT(refused); i++)
@@ -820,7 +767,6 @@ static void try_layouts(void)
         try_slices(boxes[k], &one_unit, AVAREZHU_GRADIENT_SIZE, &bars, AVAREZHU_STOPS_SIZE);
         try_slices(boxes[k], &bars, AVAREZHU_GRADIENT_SIZE, &no_period, AVAREZHU_STOPS_SIZE);
         try_slices(boxes[k], &round_again, AVAREZHU_GRADIENT_SIZE, &no_period, AVAREZHU_STOPS_SIZE);
-        try_slices(boxes[k], &pairs, AVAREZHU_GRADIENT_SIZE, &pairs, AVAREZHU_STOPS_SIZE);
     }
 }
 
@@ -1019,18 +965,6 @@ static const struct worked drawn[] = {
     {"repeating-radial-gradient(0px, red, #0f00)", 1, 2, {128, 0, 0, 128, 128, 0, 0, 128}}, /* 127.5 twice */
     /* 45 units from the center, and 101, 5 more than two periods of 48: 239.06 and 26.56 */
     {"repeating-radial-gradient(circle at 0 0, black, white 0.75px)", 2, 1, {239, 239, 239, 255, 27, 27, 27, 255}},
-    {"linear-gradient(to right, red 0 2px, 2px 4px blue)", 4, 1,
-     {255, 0, 0, 255, 255, 0, 0, 255, 0, 0, 255, 255, 0, 0, 255, 255}},
-    /* black up to 128, white from 192 on, 160 halfway between: 127.5 */
-    {"linear-gradient(to right, black 1px 2px, 3px white)", 4, 1,
-     {0, 0, 0, 255, 0, 0, 0, 255, 128, 128, 128, 255, 255, 255, 255, 255}},
-    /* the second position is raised to the first, 128; then 32 and 96 of 128 units */
-    {"linear-gradient(to right, 2px 0 black, white 4px)", 4, 1,
-     {0, 0, 0, 255, 0, 0, 0, 255, 64, 64, 64, 255, 191, 191, 191, 255}},
-    /* five stops, four of them by two: 159.375 and 63.75 */
-    {"repeating-linear-gradient(red 0 0, white 0, 0 0 blue)", 1, 1, {159, 64, 159, 255}},
-    /* 45 and 101 units from the center, black up to 32, white from 96 on: 51.797 */
-    {"radial-gradient(2px at 0 0, 0 25% black, 75% white)", 2, 1, {52, 52, 52, 255, 255, 255, 255, 255}},
 };
 
 /* P4 and P5, in 200 by 1 pixels: a line of 12,800 units. */

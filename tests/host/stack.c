@@ -38,7 +38,6 @@ static const char *const export_names[EXPORTS] = {
 #define FOUR(a) a ", " a ", " a ", " a
 #define SIXTEEN FOUR("red 3%, lime, #0000ff80, white 2px")
 #define UNPLACED FOUR("red, lime, #0000ff80, white")
-#define TWICE FOUR("red 3% 5px, 9.5px 1% #0000ff80")
 
 /* Texts with their replies; a text shorter than `length` is filled up with blanks. */
 static const struct recipe {
@@ -73,15 +72,6 @@ static const struct recipe {
     {"rings of a unit", "repeating-radial-gradient(circle at 30.3% 41.7%, red, blue 0.016px)", 0, 0},
     {"one color", "repeating-linear-gradient(37.25deg, red 2px, white 2px, #0000ff80 2px)", 0, 0},
     {"one color of 16, a circle", "repeating-radial-gradient(0px, " UNPLACED ")", 0, 0},
-    {"an angle, 16 stops of 8", "linear-gradient(-1234.75deg, " TWICE ")", 0, 0},
-    {"a circle, 16 stops of 8", "radial-gradient(circle at 30.3% 41.7%, " TWICE ")", 0, 0},
-    {"bars of two positions", "repeating-linear-gradient(to top left, red -3px 2px, 2px 9.5px #0000ff80)", 0, 0},
-    {"rings of two positions", "repeating-radial-gradient(circle, 0 red, 7px #0000ff80, lime 40px 30px)", 0, 0},
-    {"seventeen stops of 9", "repeating-radial-gradient(circle, " TWICE ", 0 red)", 0, 6},
-    {"seventeen stops of 9, out of range", "linear-gradient(" TWICE ", 0 9000px red)", 0, 5},
-    {"seventeen stops of 9, then a fault", "linear-gradient(" TWICE ", red, 0 blue 5px)", 0, 4},
-    {"one stop of two positions", "linear-gradient(37.25deg, red 0 15px)", 0, 4},
-    {"32 stops in 1,024 bytes", "linear-gradient(" TWICE ", " TWICE ")", 1024, 6},
     {"seventeen repeating stops", "repeating-radial-gradient(circle, " SIXTEEN ", red)", 0, 6},
     {"a text of 1,024 bytes", "linear-gradient(37.25deg, " SIXTEEN ")", 1024, 0},
     {"a text of 1,025 bytes", "linear-gradient(37.25deg, " SIXTEEN ")", 1025, 3},

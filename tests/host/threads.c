@@ -18,7 +18,6 @@
 #define COUNT(array) (sizeof(array) / sizeof *(array))
 #define FOUR(a) a ", " a ", " a ", " a
 #define SIXTEEN FOUR("red 3%, lime, #0000ff80, white 2px")
-#define TWICE FOUR("red 3% 5px, 9.5px 1% #0000ff80")
 
 enum { THREADS = 8, ROUNDS = 40, FEW_ROUNDS = 2, SMALL = 2 };
 
@@ -39,11 +38,6 @@ static const struct recipe {
     {"rings", "repeating-radial-gradient(circle at 30.3% 41.7%, red -5px, #0000ff80 7px, lime 40px)", 0},
     {"a period of a unit", "repeating-linear-gradient(-1234.75deg, red, lime 0.008px, blue 0.016px)", 0},
     {"one color", "repeating-radial-gradient(circle, red 2px, white 2px, #0000ff80 2px)", 0},
-    {"slanted, 16 stops of 8", "linear-gradient(-1234.75deg, " TWICE ")", 0},
-    {"bars of two positions", "repeating-linear-gradient(to right, red -3px 2px, 2px 9.5px #0000ff80)", 0},
-    {"rings of two positions", "repeating-radial-gradient(circle, 0 red, 7px #0000ff80, lime 40px 30px)", 0},
-    {"one stop of two positions", "linear-gradient(37.25deg, red 0 15px)", 4},
-    {"seventeen stops of 9", "radial-gradient(circle, " TWICE ", 0 red)", 6},
     {"not in the grammar", "linear-gradient(37.25deg, " SIXTEEN ",)", 4},
     {"out of range", "linear-gradient(45.1deg, red, blue)", 5},
     {"seventeen stops", "radial-gradient(circle, " SIXTEEN ", red)", 6},

@@ -18,7 +18,6 @@ texts = [
     b"radial-gradient(circle closest-side at 30% 40%, red, lime 10px, blue 10px, #1234)",
     b"repeating-linear-gradient(100.75deg, black, black 4px, white 4px, white 8px)",
     b"repeating-radial-gradient(circle 16px at center, red, #0f0 50%, transparent)",
-    b"linear-gradient(to left, red 0 15px, 15px 30px #0f0, 40px blue, 50px 60% white)",
     b" Linear-Gradient(\n\tto top left,\r\n\tred,\n\ttransparent 50%,\n\tblue)\n",
 ]
 scraps = [b",", b"(", b")", b" ", b";", b"\n", b"\0", b"\xc2\xa0", b"\xef\xbb\xbf", b"\xff", b"em", b"rgb(", b"red", b"9999px", b"#", b"-", b"\xe2\x80"]

@@ -23,11 +23,8 @@ wrong_heads = {
 for name in list(heads):
     heads["repeating-" + name] = heads[name]
     wrong_heads["repeating-" + name] = wrong_heads[name]
-stops = ["red", "#0f0", "blue 40%", "#11223344 -5px", "transparent", "White 0", "red 0 15px", "0 blue", "-5px 40% #0f08"]
+stops = ["red", "#0f0", "blue 40%", "#11223344 -5px", "transparent", "White 0"]
 wrong_stops = [("redd", 4), ("#12345", 4), ("blue 4em", 4), ("lime 5", 4), ("red 1px 2px 3px", 4), ("red40%", 4), ("red 9000px", 5), ("blue -1000.5%", 5)]
-# with one or two positions, after or before the color
-wrong_stops += [("1px 2px 3px red", 4), ("10px red 20px", 4), ("0 15px", 4), ("red 0 45deg", 4), ("0 90deg red", 4), ("0 15px redd", 4), ("4em 5px red", 4),
-                ("red 1px 2px blue", 4), ("red 15px20px", 4), ("0 9000px red", 5), ("red 1000.5% 9000px", 5)]
 commas = [",", ", ", " ,", ",\n    ", "\n,\t", ",\r\n"]
 
 

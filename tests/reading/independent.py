@@ -1,5 +1,5 @@
 #!/usr/bin/env python3
-"""The reading of a gradient's text again, from documents 01 and 02: an independent check of the crate `reader`.
+"""The reading of a gradient's text again, from document 01: an independent check of the crate `reader`.
 
     independent.py < TEXTS                  prints one line for each line of TEXTS
     independent.py --compare FILE < TEXTS   compares FILE with those lines; exit status 1 where they differ
@@ -14,7 +14,6 @@ For each text the reply is printed, and then what is handed out with it:
     0 linear 450.000deg | #ff0000ff | #0000ffff 5.000px
     0 radial closest-side at 50.000% 0.000px | #..           a size, the center from the left and from the top, then the stops
     0 repeating linear to bottom | #..                       the same where the gradient repeats
-    0 .. | #ff0000ff 0.000px | #ff0000ff 15.000px | #..      two stops, where one is written with two positions
 
 Every number is printed with its thousandths and is exact.
 
@@ -45,7 +44,7 @@ UNITS = {"px": "L", "%": "P", "deg": "D"}
 DIRECTION = re.compile("T(?:H|V|HV|VH)|D")
 POSITION = "(?:[HVMLP]|[HMLP][VMLP]|[VM][HM])"
 CIRCLE = re.compile(f"(?:O|OE|OL|EO|LO|L)(?:A{POSITION})?")
-STOP = re.compile("K[LP]{0,2}|[LP]{1,2}K")
+STOP = re.compile("K[LP]?")
 
 NUMBER = re.compile(r"([+-]?)(?:([0-9]+)|([0-9]*)\.([0-9]{1,3}))(px|%|deg|)")
 HEX = re.compile(r"#(?:[0-9a-f]{3}|[0-9a-f]{4}|[0-9a-f]{6}|[0-9a-f]{8})")
@@ -128,11 +127,8 @@ class Item:
         return [word for word, kind in zip(self.words, self.kinds) if kind in kinds]
 
 
-def stop_lines(item):
-    """A stop for each position, in the order written; without a position, one stop."""
-    (name,) = item.pick("K")
-    digits = "#" + color(name)
-    return [f"{digits} {n}" for n in item.numbers()] or [digits]
+def stop_line(item):
+    return " ".join(["#" + color(item.words[0])] + [str(n) for n in item.numbers()])
 
 
 def direction_line(item):
@@ -176,7 +172,7 @@ def circle_in_range(item):
 
 
 def parse(text):
-    """The head's line, the stops as written, and whether every number is in its range."""
+    """The head's line, the stops, and whether every number is in its range."""
     found = re.fullmatch(r"(repeating-|)(linear|radial)-gradient\((.*)\)", text, re.DOTALL)
     if not found:
         raise Refusal
@@ -207,15 +203,14 @@ def read(data):
     # Only the ASCII letters of bytes have a lower case, and each byte becomes one character.
     text = data.lower().strip(SPACE).decode("latin-1")
     try:
-        line, written, in_range = parse(text)
+        line, stops, in_range = parse(text)
     except Refusal:
         return "4 blank"
     if not in_range:
         return "5 blank"
-    stops = [stop for item in written for stop in stop_lines(item)]
     if len(stops) > MOST_STOPS:
         return "6 blank"
-    return " | ".join(["0 " + line] + stops)
+    return " | ".join(["0 " + line] + [stop_line(item) for item in stops])
 
 
 def decoded(line):

@@ -343,89 +343,6 @@ fn draw_repeating_rows() {
     draw_rows(b"repeating-linear-gradient(red, blue)", 2, 2, 1, 1, 8);
 }
 
-// Stops with two positions: bars, percentages, a second one below the first, a circle, sixteen stops.
-fn draw_two_positions() {
-    draw(
-        b"linear-gradient(to right, red 0 4px, blue 4px 8px)",
-        8,
-        1,
-        32,
-    );
-    draw(b"linear-gradient(red 0 15px, blue)", 1, 16, 64);
-    draw(
-        b"linear-gradient(to left, #f008 25% 50%, lime, blue 75% 7px)",
-        8,
-        1,
-        32,
-    );
-    draw(
-        b"linear-gradient(to right, red 6px 2px, lime 1px 4px, blue)",
-        8,
-        1,
-        36,
-    );
-    draw(
-        b"radial-gradient(circle at 0 0, red 20% 2px, #00f8 3px 4px)",
-        4,
-        4,
-        64,
-    );
-    draw(
-        b"linear-gradient(90deg,red 0 1px,lime 2px 3px,blue 4px 5px,aqua 6px 7px,gray 8px 9px,navy 10px 11px,teal 12px 13px,white 14px 15px)",
-        16,
-        1,
-        64,
-    );
-}
-
-// Positions before the color, and gradients that repeat.
-fn draw_positions_first() {
-    draw(b"linear-gradient(0 red, blue)", 1, 4, 16);
-    draw(
-        b"linear-gradient(to right, 1px 50% red, 75% blue)",
-        8,
-        1,
-        32,
-    );
-    draw(
-        b"radial-gradient(2px, 0 10% red, 1px lime, blue 80% 90%)",
-        4,
-        4,
-        64,
-    );
-    draw(
-        b"repeating-linear-gradient(to right, black 0 2px, 2px 5px white)",
-        16,
-        1,
-        64,
-    );
-    draw(
-        b"repeating-radial-gradient(circle, 0 .5px red, #00f8 .5px 1px)",
-        4,
-        4,
-        64,
-    );
-    draw(
-        b"repeating-linear-gradient(red 3px 1px, 2px blue)",
-        2,
-        2,
-        16,
-    );
-}
-
-fn draw_positions_refused() {
-    draw(b"linear-gradient(red 0 15px)", 1, 1, 6);
-    draw(b"linear-gradient(0 red 15px, blue)", 1, 1, 6);
-    draw(b"linear-gradient(0deg red, blue)", 1, 1, 6);
-    draw(b"radial-gradient(circle, red 0 8193px, blue)", 1, 1, 6);
-    draw(
-        b"linear-gradient(red 0 0,red 0 0,red 0 0,red 0 0,red 0 0,red 0 0,red 0 0,red 0 0,blue)",
-        1,
-        1,
-        6,
-    );
-}
-
 fn main() {
     draw_accepted();
     draw_between_units();
@@ -438,7 +355,4 @@ fn main() {
     draw_more_repeating_lines();
     draw_repeating_refused();
     draw_repeating_rows();
-    draw_two_positions();
-    draw_positions_first();
-    draw_positions_refused();
 }

@@ -90,7 +90,7 @@ cases =
     ∷ []
 
 pub p1-p10 : map (λ c. c.given) cases ≡ map (λ c. c.stated) cases
-unfolding floor_div to_unit root_in root_of shape_in radius_of line.length_of line.rule_of location_by norm line_length along vector_of peek_of rest_of text.run past is_space gap_of lower keyword_of whole_of color_names row_of named_of color_of is_digit decimal is_negative after_sign thousandths fraction_of magnitude_of unit_of number_of horizontal_of vertical_of horizontal_first vertical_first to_of angle_of direction_of extent_of size_of circle_first size_first circle_of at_of radial_of circle.length_of coordinate_of part_of second_of position.position_of items_of two_stops_of stops.stop_position_of stops.positions_of stops.color_first stops.color_last stops.stop_of stops.stops_of with_stops linear_of circular_of closes_of body_of kind_of function_of read_reply read_of box_in rows_in strip_reply place_text_reply first_at last_at raised_from next spaced_from fixup.run at_positions placed_stops placed_in premultiplied last_place around mixed joined row strip
+unfolding floor_div to_unit root_in root_of shape_in radius_of line.length_of line.rule_of location_by norm line_length along vector_of peek_of rest_of text.run past is_space gap_of lower keyword_of whole_of color_names row_of named_of color_of is_digit decimal is_negative after_sign thousandths fraction_of magnitude_of unit_of number_of horizontal_of vertical_of horizontal_first vertical_first to_of angle_of direction_of extent_of size_of circle_first size_first circle_of at_of radial_of circle.length_of coordinate_of part_of second_of position.position_of items_of two_stops_of stops.stop_position_of stops.stop_of stops.stops_of with_stops linear_of circular_of closes_of body_of kind_of function_of read_reply read_of box_in rows_in strip_reply place_text_reply first_at last_at raised_from next spaced_from fixup.run at_positions placed_stops placed_in premultiplied last_place around mixed joined row strip
 p1-p10 = refl
 
 -- ---- T-01
@@ -103,19 +103,5 @@ repeating_cases =
     ∷ []
 
 pub t-01 : map (λ c. c.given) repeating_cases ≡ map (λ c. c.stated) repeating_cases
-unfolding floor_div to_unit root_in root_of shape_in radius_of line.length_of line.rule_of location_by norm line_length along vector_of peek_of rest_of text.run past is_space gap_of lower keyword_of whole_of color_names row_of named_of color_of is_digit decimal is_negative after_sign thousandths fraction_of magnitude_of unit_of number_of horizontal_of vertical_of horizontal_first vertical_first to_of angle_of direction_of extent_of size_of circle_first size_first circle_of at_of radial_of circle.length_of coordinate_of part_of second_of position.position_of items_of two_stops_of stops.stop_position_of stops.positions_of stops.color_first stops.color_last stops.stop_of stops.stops_of with_stops linear_of circular_of closes_of body_of kind_of function_of read_reply read_of box_in rows_in strip_reply place_text_reply first_at last_at raised_from next spaced_from fixup.run at_positions placed_stops placed_in premultiplied last_place around mixed joined row strip moved_to remainder total_length entries_sum
+unfolding floor_div to_unit root_in root_of shape_in radius_of line.length_of line.rule_of location_by norm line_length along vector_of peek_of rest_of text.run past is_space gap_of lower keyword_of whole_of color_names row_of named_of color_of is_digit decimal is_negative after_sign thousandths fraction_of magnitude_of unit_of number_of horizontal_of vertical_of horizontal_first vertical_first to_of angle_of direction_of extent_of size_of circle_first size_first circle_of at_of radial_of circle.length_of coordinate_of part_of second_of position.position_of items_of two_stops_of stops.stop_position_of stops.stop_of stops.stops_of with_stops linear_of circular_of closes_of body_of kind_of function_of read_reply read_of box_in rows_in strip_reply place_text_reply first_at last_at raised_from next spaced_from fixup.run at_positions placed_stops placed_in premultiplied last_place around mixed joined row strip moved_to remainder total_length entries_sum
 t-01 = refl
-
--- ---- T-05
--- "`red 0 15px` for two stops of one colour", "the position before the colour", "placed in order": a second position below the first is raised to it
-abbrev positions_cases : List Case
-positions_cases =
-    (placed_from "linear-gradient(to right, red 0 15px, 15px 50% white, blue 100px 90px)"
-    gives pos 0 ∷ pos 960 ∷ pos 960 ∷ pos 6400 ∷ pos 6400 ∷ pos 6400 ∷ [])
-    ∷ (drawn_from "linear-gradient(to right, red 0 1px, 1px 2px lime)" 2 1
-    gives pos 255 ∷ pos 0 ∷ pos 0 ∷ pos 255 ∷ pos 0 ∷ pos 255 ∷ pos 0 ∷ pos 255 ∷ [])
-    ∷ []
-
-pub t-05 : map (λ c. c.given) positions_cases ≡ map (λ c. c.stated) positions_cases
-unfolding floor_div to_unit root_in root_of shape_in radius_of line.length_of line.rule_of location_by norm line_length along vector_of peek_of rest_of text.run past is_space gap_of lower keyword_of whole_of color_names row_of named_of color_of is_digit decimal is_negative after_sign thousandths fraction_of magnitude_of unit_of number_of horizontal_of vertical_of horizontal_first vertical_first to_of angle_of direction_of extent_of size_of circle_first size_first circle_of at_of radial_of circle.length_of coordinate_of part_of second_of position.position_of items_of two_stops_of stops.stop_position_of stops.positions_of stops.color_first stops.color_last stops.stop_of stops.stops_of with_stops linear_of circular_of closes_of body_of kind_of function_of read_reply read_of box_in rows_in strip_reply place_text_reply first_at last_at raised_from next spaced_from fixup.run at_positions placed_stops placed_in premultiplied last_place around mixed joined row strip
-t-05 = refl

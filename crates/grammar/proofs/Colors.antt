@@ -7,12 +7,11 @@ use Prim.Native.Nat.{ℕ, ◌+◌, ◌*◌, ◌-◌, ◌≤◌, ◌<◌}
 use Prim.Native.Char.{code}
 use Prim.Native.String.{String}
 use native.Mathlib.Omega.{arith}
-use lib.Dec.{ltb, eqb}
+use lib.Dec.{eqb}
 use lib.ListN.{length}
-use borrow.Author.Tests.{ne_eqb, eqb-true, ltb-true}
+use borrow.Author.Tests.{ne_eqb, eqb-true}
 use Rattle.text.specs.Text.{bytes, is, in_range, peek_of, rest_of, past, run, lower, keyword_of, Read, got, refused, ◌>>=◌, ◌or_read◌}
-use Rattle.text.proofs.Laws.{bind-got, bind-refused, or-second, run_past, in-range, below-range, above-range, range-bounds}
-use Rattle.gradient.specs.Lists.{all}
+use Rattle.text.proofs.Laws.{bind-got, run_past, in-range, below-range, above-range, range-bounds}
 use Rattle.gradient.specs.declared.Color.{Color}
 use Rattle.tokens.specs.Number.{number_of, exact}
 use Rattle.tokens.specs.Color.{begins, color, is_hex, hex_value, hex_color, hex_of, Row, color_names, row_at, row_of, named_of, color_of}
@@ -21,7 +20,7 @@ use Rattle.tokens.proofs.NameTable.{both, name-found}
 use Rattle.stoplist.specs.View.{not_comma}
 use Rattle.grammar.specs.Words.{Every, none, more, Letter, same, capital, Word, OneOf, one}
 use Rattle.grammar.specs.Colors.{rgba, rgb, pair, Name, Hex, ColorText}
-use Rattle.grammar.proofs.Laws.{Is, Reads, some, nothing, behind, reads-or, reads_as, reads-for, run-every, past-every, every-run, small, word-reads, unlike, first-high, word_first, word-high, whole, high, plain, apart, not-comma, word-plain}
+use Rattle.grammar.proofs.Laws.{Is, Reads, some, nothing, behind, reads-or, reads_as, reads-for, run-every, past-every, every-run, small, word-reads, unlike, word_first, word-high, whole, high, plain, apart, not-comma, word-plain}
 use Rattle.grammar.proofs.Numbers.{number-none}
 
 -- ---- hex digits
@@ -285,21 +284,3 @@ color-not k (ColorText.six a b c e f g) = hash-not (_ ∷ _ ∷ _ ∷ _ ∷ _ �
 color-not k (ColorText.eight a b c e f g i j) = hash-not (_ ∷ _ ∷ _ ∷ _ ∷ _ ∷ _ ∷ _ ∷ _ ∷ []) k
 color-not k (ColorText.transparent w) = name-not transparent-is w k
 color-not k (ColorText.named (one n w)) = name-not (name-is n) w k
-
--- ---- no color begins where a number does
--- a name that begins with a letter
-abbrev is_high : Row → Bool
-is_high w = ltb 57 (peek_of w.name)
-
-no-named : (t : List Row) (l : List ℕ) → all is_high t ≡ true → peek_of l < 58 → refused ≡ named_of t l
-unfolding named_of row_of peek_of
-no-named [] l h n = refl
-no-named (w ∷ t) l h n = or-second (bind-refused _ (go w.name (ltb-true _ _ (both h).0))) (no-named t l (both {a = is_high w} h).1 n)
-  where
-    go : (name : List ℕ) → 57 < peek_of name → refused ≡ keyword_of name l
-    go [] e = absurd (omega arith)
-    go (x ∷ name) e = word_first x name l (λ q. let z = first-high (peek_of l) x q e in omega arith)
-
-pub no-color : (l : List ℕ) → 42 < peek_of l → peek_of l < 58 → refused ≡ color_of l
-unfolding color_of color_names peek_of
-no-color l h n = rw (ne_eqb (peek_of l) (code "#") (λ e. omega arith)) (no-named color_names l refl n)

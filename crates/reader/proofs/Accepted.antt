@@ -23,7 +23,7 @@ use Rattle.gradient.proofs.Lists.{all-at, all-copies}
 use Rattle.gradient.proofs.Laws.{accepting}
 use Rattle.stoplist.specs.Stops.{two_stops_of}
 use Rattle.stoplist.specs.View.{places}
-use Rattle.stoplist.proofs.Each.{two-more}
+use Rattle.stoplist.proofs.Cut.{two-more}
 use Rattle.reader.specs.Written.{Written}
 use Rattle.reader.specs.Text.{gradient_of}
 use Rattle.reader.specs.Reading.{grammar_reply, gradient_in, value_of, read_reply, read_of}

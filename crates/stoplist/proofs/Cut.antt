@@ -2,13 +2,14 @@
 -- Assumes nothing.
 use mathlib.Core.Path.{◌≡◌, refl, sym, ap, ◌∙◌}
 use mathlib.Core.Bool.{Bool, true, false, cond, and-eq-true_iff}
-use mathlib.Core.List.{List, [], ◌∷◌, ◌++◌, map, map-append}
-use Prim.Native.Nat.{ℕ}
+use mathlib.Core.List.{List, [], ◌∷◌, map}
+use Prim.Native.Nat.{ℕ, ◌≤◌}
 use lib.Dec.{ltb}
 use lib.IntN.{ℤ}
-use lib.ListN.{length}
+use lib.ListN.{length, length-map}
+use borrow.Author.Tests.{ltb-false}
 use Rattle.text.specs.Text.{Read, got, refused, ◌>>=◌, ◌or_read◌, map_read, after_gap, whole_of}
-use Rattle.text.proofs.Laws.{map-bind, map-inside, map-or, map-cond}
+use Rattle.text.proofs.Laws.{map-bind, map-inside, map-or, map-cond, map-map, got-refused}
 use Rattle.gradient.specs.Lists.{all}
 use Rattle.gradient.specs.Range.{position_in, stop_in}
 use Rattle.gradient.specs.declared.Color.{Color}
@@ -21,7 +22,7 @@ use Rattle.tokens.specs.Color.{color_of}
 use Rattle.tokens.specs.declared.Unit.{Unit}
 use Rattle.tokens.specs.declared.Unit.TheVariants as U
 use Rattle.tokens.proofs.Cut.{number_cut, length_cut, percentage-cut, length-kept, percentage-kept}
-use Rattle.stoplist.specs.Stops.{stop, stops_at, as_position, stop_position_of, positions_of, color_first, color_last, stop_of, stops_of, two_stops_of}
+use Rattle.stoplist.specs.Stops.{stop, as_position, stop_position_of, stop_of, stops_of, two_stops_of}
 use Rattle.text.proofs.Whole.{map-gap, whole-map}
 
 abbrev pub cut_position : Position → Position
@@ -42,60 +43,22 @@ position-cut l = rw (number_cut l) (sym (map-bind cut_position cut_number _ _ (�
     by-unit U.Percentage z k = refl
     by-unit U.Angle z k = refl
 
-stops-at-cut : (v : Color) (ps : List Position) → map cut_stop (stops_at v ps) ≡ stops_at v (map cut_position ps)
-stops-at-cut v [] = refl
-stops-at-cut v (p ∷ ps) = rw (stops-at-cut v ps)
-
-positions-cut : (l : List ℕ) → positions_of cut l ≡ map_read (map cut_position) (positions_of exact l)
-unfolding positions_of
-positions-cut l = rw (position-cut l) (sym (map-bind (map cut_position) cut_position _ _ second (stop_position_of exact l)))
-  where
-    second : (p : Position) (k : List ℕ)
-        → map_read (map cut_position) ((after_gap (stop_position_of exact) k >>= λ q e. got (p ∷ q ∷ []) e) or_read got (p ∷ []) k)
-        ≡ ((after_gap (stop_position_of cut) k >>= λ q e. got (cut_position p ∷ q ∷ []) e) or_read got (cut_position p ∷ []) k)
-    second p k =
-        rw (map-or, ← map-gap cut_position (stop_position_of exact) (stop_position_of cut) (λ m. sym (position-cut m)) k)
-        (ap (λ (r : Read (List Position)). r or_read got (cut_position p ∷ []) k)
-        (map-bind (map cut_position) cut_position _ _ (λ q e. refl) (after_gap (stop_position_of exact) k)))
-
-first-cut : (l : List ℕ) → color_first cut l ≡ map_read (map cut_stop) (color_first exact l)
-unfolding color_first
-first-cut l = sym (map-inside (map cut_stop) _ _ second (color_of l))
-  where
-    second : (v : Color) (k : List ℕ)
-        → map_read (map cut_stop) ((after_gap (positions_of exact) k >>= λ ps e. got (stops_at v ps) e) or_read got (stops_at v (P.Auto ∷ [])) k)
-        ≡ ((after_gap (positions_of cut) k >>= λ ps e. got (stops_at v ps) e) or_read got (stops_at v (P.Auto ∷ [])) k)
-    second v k =
-        rw (map-or, ← map-gap (map cut_position) (positions_of exact) (positions_of cut) (λ m. sym (positions-cut m)) k)
-        (ap (λ (r : Read (List Stop)). r or_read got (stops_at v (P.Auto ∷ [])) k)
-        (map-bind (map cut_stop) (map cut_position) _ _ (λ ps e. ap (λ (x : List Stop). got x e) (stops-at-cut v ps)) (after_gap (positions_of exact) k)))
-
-last-cut : (l : List ℕ) → color_last cut l ≡ map_read (map cut_stop) (color_last exact l)
-unfolding color_last
-last-cut l =
-    rw (positions-cut l)
-    (sym (map-bind (map cut_stop) (map cut_position) _ _
-    (λ ps k. map-inside (map cut_stop) _ _ (λ v e. ap (λ (x : List Stop). got x e) (stops-at-cut v ps)) (after_gap color_of k)) (positions_of exact l)))
-
-pub stop-cut : (l : List ℕ) → stop_of cut l ≡ map_read (map cut_stop) (stop_of exact l)
+pub stop-cut : (l : List ℕ) → stop_of cut l ≡ map_read cut_stop (stop_of exact l)
 unfolding stop_of
-stop-cut l = rw (map-or, first-cut l, last-cut l)
+stop-cut l = sym (map-inside cut_stop _ _ second (color_of l))
+  where
+    second : (v : Color) (k : List ℕ) → map_read cut_stop ((after_gap (stop_position_of exact) k >>= λ p e. got (stop v p) e) or_read got (stop v P.Auto) k)
+        ≡ ((after_gap (stop_position_of cut) k >>= λ p e. got (stop v p) e) or_read got (stop v P.Auto) k)
+    second v k = rw (map-or, ← map-gap cut_position (stop_position_of exact) (stop_position_of cut) (λ m. sym (position-cut m)) k) (ap (λ (r : Read Stop). r or_read got (stop v P.Auto) k) (map-bind cut_stop cut_position _ _ (λ p e. refl) (after_gap (stop_position_of exact) k)))
 
 stops-cut : (items : List (List ℕ)) → stops_of cut items ≡ map_read (map cut_stop) (stops_of exact items)
 unfolding stops_of
 stops-cut [] = refl
-stops-cut (i ∷ items) =
-    rw (whole-map (map cut_stop) (stop_of exact) (stop_of cut) stop-cut i, stops-cut items)
-    (sym (map-bind (map cut_stop) (map cut_stop) _ _ (λ ss k. joined ss (stops_of exact items)) (whole_of (stop_of exact) i)))
-  where
-    joined : (ss : List Stop) (r : Read (List Stop))
-        → map_read (map cut_stop) (map_read (λ ts. ss ++ ts) r) ≡ map_read (λ ts. map cut_stop ss ++ ts) (map_read (map cut_stop) r)
-    joined ss (got ts l) = ap (λ (x : List Stop). got x l) (map-append cut_stop ss ts)
-    joined ss refused = refl
+stops-cut (i ∷ items) = rw (whole-map cut_stop (stop_of exact) (stop_of cut) stop-cut i, stops-cut items) (sym (map-bind (map cut_stop) cut_stop _ _ (λ s k. map-map _ _ (stops_of exact items) ∙ sym (map-map _ _ (stops_of exact items))) (whole_of (stop_of exact) i)))
 
 pub two-stops-cut : (items : List (List ℕ)) → two_stops_of cut items ≡ map_read (map cut_stop) (two_stops_of exact items)
 unfolding two_stops_of
-two-stops-cut items = rw (stops-cut items) (sym (map-cond (map cut_stop) (ltb (length items) 2) refused (stops_of exact items)))
+two-stops-cut items = rw (stops-cut items) (sym (map-bind (map cut_stop) (map cut_stop) _ _ (λ ss k. rw (length-map ss cut_stop) (map-cond (map cut_stop) (ltb (length ss) 2) refused (got ss []))) (stops_of exact items)))
 
 -- ---- ranges
 pub stop-in-cut : (s : Stop) → stop_in (cut_stop s) ≡ stop_in s
@@ -121,3 +84,16 @@ stop-kept s h = ap (stop s.color) (go s.position h)
 pub stops-kept : (ss : List Stop) → all stop_in ss ≡ true → map cut_stop ss ≡ ss
 stops-kept [] h = refl
 stops-kept (s ∷ ss) h = let k = (and-eq-true_iff (stop_in s) (all stop_in ss)).0 h in rw (stop-kept s k.0, stops-kept ss k.1)
+
+-- ---- two stops or more
+pub two-more : {ss : List Stop} {k : List ℕ} (keep : ℤ → ℤ) (items : List (List ℕ)) → got ss k ≡ two_stops_of keep items → 2 ≤ length ss
+unfolding two_stops_of
+two-more {ss} {k} keep items h = go (stops_of keep items) h
+  where
+    go : (r : Read (List Stop)) → got ss k ≡ (r >>= λ xs _. cond (ltb (length xs) 2) refused (got xs [])) → 2 ≤ length ss
+    go (got xs l) e = by-test (ltb (length xs) 2) refl e
+      where
+        by-test : (t : Bool) → ltb (length xs) 2 ≡ t → got ss k ≡ cond t refused (got xs []) → 2 ≤ length ss
+        by-test true q e = absurd (got-refused e)
+        by-test false q e = let w : xs ≡ ss = cc in rw (← w) (ltb-false _ _ q)
+    go refused e = absurd (got-refused e)

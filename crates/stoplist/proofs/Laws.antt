@@ -2,7 +2,7 @@
 -- Assumes nothing.
 use mathlib.Core.Path.{◌≡◌, refl, sym, ap, ◌∙◌, subst}
 use mathlib.Core.Bool.{Bool, true, false, cond, not, ◌||◌, ◌&&◌, and-true}
-use mathlib.Core.List.{List, [], ◌∷◌, ◌++◌, append-nil, append_assoc}
+use mathlib.Core.List.{List, [], ◌∷◌, ◌++◌, append-nil}
 use Prim.Native.Nat.{ℕ, suc, ◌+◌, ◌-◌, ◌≤◌, ◌<◌, min}
 use native.Mathlib.Decide.{dec_lt}
 use native.Mathlib.Numerals.{add-one}
@@ -18,7 +18,7 @@ use Rattle.gradient.specs.Lists.{all}
 use Rattle.gradient.specs.Range.{stop_in}
 use Rattle.gradient.specs.declared.Stop.{Stop}
 use Rattle.stoplist.specs.Stops.{onto, items_of, stop_of, stops_of, two_stops_of}
-use Rattle.stoplist.specs.View.{places, list_of, blank_list, added, added_all, no_listing, listing_of, items_from, not_comma, CommaAt}
+use Rattle.stoplist.specs.View.{places, list_of, blank_list, added, no_listing, listing_of, items_from, not_comma, CommaAt}
 use Rattle.stoplist.specs.declared.StopList.{StopList}
 use Rattle.stoplist.specs.declared.Listing.{Listing}
 
@@ -137,61 +137,49 @@ module _ (ss : List Stop) (s : Stop) where
           let m : min (length (ss ++ s ∷ [])) 17 ≡ 17 = omega (arith, one-longer) in
           rw (le-ltb (min (length ss) 17) 16 (omega arith), places-full (omega arith), all_more ss s, m)
 
-pub all-added : (ss ts : List Stop) → added_all (list_of ss) ts ≡ list_of (ss ++ ts)
-all-added ss [] = ap list_of (sym (append-nil ss))
-all-added ss (t ∷ ts) = rw (list-more ss t) (all-added (ss ++ t ∷ []) ts ∙ ap list_of (append_assoc ss (t ∷ []) ts))
-
 -- ---- the loop over the items of s from a place on: at the place `at` its list t holds the stops done, and with what the items left give
 -- they are what all the items give
 pub record Done (keep : ℤ → ℤ) (s : List ℕ) (from at : ℕ) (t : StopList) : Type 0 where
   pub done : List Stop
-  pub held : t ≡ list_of done
+  pub biased : t ≡ list_of done
   pub gives : stops_of keep (items_from s from) ≡ map_read (λ ss. done ++ ss) (stops_of keep (items_from s at))
 
 module _ (keep : ℤ → ℤ) (s : List ℕ) (from : ℕ) where
   pub done_none : {t : StopList} → t ≡ blank_list → Done keep s from from t
   unfolding list_of
-  done_none e = record { done = []; held = e; gives = sym (map_same (λ ss. [] ++ ss) (λ ss. refl) (stops_of keep (items_from s from))) }
+  done_none e = record { done = []; biased = e; gives = sym (map_same (λ ss. [] ++ ss) (λ ss. refl) (stops_of keep (items_from s from))) }
 
   module _ {at : ℕ} {t : StopList} (w : Done keep s from at t) where
     module _ (h : at ≤ length s) {r : ℕ} (m : CommaAt s at r) where
-      pub done_more : {xs : List Stop} {k : List ℕ} {t' : StopList} → got xs k ≡ whole_of (stop_of keep) (take (r - at) (drop at s)) → t' ≡ added_all t xs
-          → Done keep s from (r + 1) t'
+      pub done_more : {a : Stop} {k : List ℕ} {t' : StopList} → got a k ≡ whole_of (stop_of keep) (take (r - at) (drop at s)) → t' ≡ added t a → Done keep s from (r + 1) t'
       unfolding stops_of
-      done_more {xs} {k} e q = record {
-        done = w.done ++ xs;
-        held = q ∙ rw w.held (all-added w.done xs);
+      done_more {a} {k} e q = record {
+        done = w.done ++ a ∷ [];
+        biased = q ∙ rw w.biased (list-more w.done a);
         gives = rw (w.gives, items_more s at r h m, ← e) (go (stops_of keep (items_from s (r + 1))));
       }
         where
-          go : (x : Read (List Stop)) → map_read (λ ss. w.done ++ ss) (map_read (λ ss. xs ++ ss) x) ≡ map_read (λ ss. w.done ++ xs ++ ss) x
-          go (got ss l) = ap (λ (y : List Stop). got y l) (sym (append_assoc w.done xs ss))
+          go : (x : Read (List Stop)) → map_read (λ ss. w.done ++ ss) (map_read (λ ss. a ∷ ss) x) ≡ map_read (λ ss. w.done ++ a ∷ [] ++ ss) x
+          go (got ss l) = ap (λ (y : List Stop). got y l) (sym (append_snoc w.done a ss))
           go refused = refl
 
-      pub done_refused : refused ≡ whole_of (stop_of keep) (take (r - at) (drop at s)) → no_listing ≡ listing_of (stops_of keep (items_from s from))
-      unfolding stops_of
+      pub done_refused : refused ≡ whole_of (stop_of keep) (take (r - at) (drop at s)) → no_listing ≡ listing_of (two_stops_of keep (items_from s from))
+      unfolding stops_of two_stops_of
       done_refused e = rw (w.gives, items_more s at r h m, ← e)
 
-    pub done_all : length s < at → ◌≡◌ {A = Listing} (record { found = true; list = t }) (listing_of (stops_of keep (items_from s from)))
-    unfolding stops_of
-    done_all h =
-        rw (w.gives, items-end s at h) (ap (λ (x : StopList). record { found = true; list = x }) (w.held ∙ ap list_of (sym (append-nil w.done))))
+    module _ (h : length s < at) where
+      all_done : stops_of keep (items_from s from) ≡ got w.done []
+      unfolding stops_of
+      all_done = rw (w.gives, items-end s at h) (ap (λ (ss : List Stop). got ss []) (append-nil w.done))
 
--- ---- how many items there are: none past the end, one where no comma is found, else two or more
-module _ (keep : ℤ → ℤ) (s : List ℕ) (from : ℕ) where
-  pub no_items : length s < from → no_listing ≡ listing_of (two_stops_of keep (items_from s from))
-  unfolding two_stops_of
-  no_items h = rw (items-end s from h)
+      count-done : t.count ≡ min (length w.done) 17
+      unfolding list_of
+      count-done = rw w.biased
 
-  module _ (h : from ≤ length s) {r : ℕ} (m : CommaAt s from r) where
-    pub one-item : r ≡ length s → no_listing ≡ listing_of (two_stops_of keep (items_from s from))
-    unfolding two_stops_of
-    one-item e = rw (items_more s from r h m, items-end s (r + 1) (omega arith))
+      pub done-few : t.count < 2 → no_listing ≡ listing_of (two_stops_of keep (items_from s from))
+      unfolding two_stops_of
+      done-few k = rw (all_done, lt-ltb (length w.done) 2 (omega (arith, count-done)))
 
-    pub two_items : (r ≡ length s → ⊥) → {x : Listing} → x ≡ listing_of (stops_of keep (items_from s from))
-        → x ≡ listing_of (two_stops_of keep (items_from s from))
-    unfolding two_stops_of
-    two_items f e = rw (le-ltb (length (items_from s from)) 2 two) e
-      where
-        two : 2 ≤ length (items_from s from)
-        two = rw (items_more s from r h m, le-leb (r + 1) (length s) (omega (arith, m.within)), items-step (drop (r + 1) s)) (omega arith)
+      pub done-enough : 2 ≤ t.count → ◌≡◌ {A = Listing} (record { found = true; list = t }) (listing_of (two_stops_of keep (items_from s from)))
+      unfolding two_stops_of
+      done-enough k = rw (all_done, le-ltb (length w.done) 2 (omega (arith, count-done)), w.biased)

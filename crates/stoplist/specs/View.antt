@@ -1,6 +1,6 @@
 -- What the answers of the code mean: each case of a stop's as a reading of the text, and what the array of a list holds of the stops read.
 -- Assumes nothing.
-use Rattle.std.specs.Prelude.{◌≡◌, ℕ, ◌+◌, ◌-◌, ◌≤◌, min, Bool, true, false, cond, not, ◌||◌, List, [], ◌∷◌, ◌++◌, leb, ltb, length, take, drop, set, replicate}
+use Rattle.std.specs.Prelude.{◌≡◌, ℕ, ◌+◌, ◌-◌, ◌≤◌, min, Bool, true, false, cond, not, ◌||◌, List, [], ◌++◌, leb, ltb, length, take, drop, set, replicate}
 use Rattle.text.specs.Text.{is, past, run, Read, got, refused}
 use Rattle.gradient.specs.declared.Position.{Position}
 use Rattle.gradient.specs.declared.Stop.{Stop}
@@ -9,34 +9,18 @@ use Rattle.gradient.specs.Blank.{blank_stop}
 use Rattle.gradient.specs.Range.{stop_in}
 use Rattle.stoplist.specs.declared.PositionRead.{PositionRead}
 use Rattle.stoplist.specs.declared.PositionRead.TheVariants as position
-use Rattle.stoplist.specs.declared.Positions.{Positions}
-use Rattle.stoplist.specs.declared.Positions.TheVariants.{One, Two}
-use Rattle.stoplist.specs.declared.WrittenStop.{WrittenStop}
 use Rattle.stoplist.specs.declared.StopRead.{StopRead}
 use Rattle.stoplist.specs.declared.StopRead.TheVariants as stop
 use Rattle.stoplist.specs.declared.StopList.{StopList}
 use Rattle.stoplist.specs.declared.Listing.{Listing}
-use Rattle.stoplist.specs.Stops.{stops_at, items_of}
+use Rattle.stoplist.specs.Stops.{items_of}
 
 abbrev pub view_position : List ℕ → PositionRead → Read Position
 view_position s (position.Got p c) = got p (drop c.at s)
 view_position s position.Refused = refused
 
--- the positions of an answer, in order
-abbrev pub positions_in : Positions → List Position
-positions_in (One p) = p ∷ []
-positions_in (Two p q) = p ∷ q ∷ []
-
-abbrev pub first_of : Positions → Position
-first_of (One p) = p
-first_of (Two p q) = p
-
--- the stops of an answer: two positions are two stops of that color, side by side
-abbrev pub stops_in : WrittenStop → List Stop
-stops_in w = stops_at w.color (positions_in w.positions)
-
-abbrev pub view_stop : List ℕ → StopRead → Read (List Stop)
-view_stop s (stop.Got w c) = got (stops_in w) (drop c.at s)
+abbrev pub view_stop : List ℕ → StopRead → Read Stop
+view_stop s (stop.Got a c) = got a (drop c.at s)
 view_stop s stop.Refused = refused
 
 -- up to 16 stops in the 16 places, the places after them blank
@@ -57,11 +41,6 @@ added t s = record {
   count = cond (ltb t.count 16) (t.count + 1) 17;
   wide = t.wide || not (stop_in s);
 }
-
--- and with several more, one after the other
-abbrev pub added_all : StopList → List Stop → StopList
-added_all t [] = t
-added_all t (s ∷ ss) = added_all (added t s) ss
 
 abbrev pub no_listing : Listing
 no_listing = record { found = false; list = blank_list }

@@ -5,7 +5,7 @@ use mathlib.Core.List.{List, [], ◌∷◌}
 use Prim.Native.Nat.{ℕ}
 use borrow.Author.Tests.{not-true, not-false}
 use Rattle.text.specs.Text.{is_nil, past, is_space, Read, got, refused, gap_of, map_read, after_gap, whole_of}
-use Rattle.text.proofs.Laws.{map-bind, map-inside, map-cond, Gets, gets-any, gets-bind, gets-cond}
+use Rattle.text.proofs.Laws.{map-bind, map-inside, map-cond}
 
 -- ---- a reading of a whole text l: m is what follows its first white space, k what follows what is got, and e what follows the white space
 -- after that; t is what the code answers to whether that is the end
@@ -36,12 +36,3 @@ pub whole-map : {A B : Type 0} (h : A → B) (f : List ℕ → Read A) (f' : Lis
     → (l : List ℕ) → whole_of f' l ≡ map_read h (whole_of f l)
 unfolding whole_of
 whole-map h f f' e l = rw (e (past is_space l)) (sym (map-bind h h _ _ (λ a k. map-cond h (is_nil (past is_space k)) (got a []) refused) (f (past is_space l))))
-
--- ---- what holds of all that a reading gets holds of what it gets after white space, and of a whole text
-pub gets-gap : {A : Type 0} (P : A → Type 0) (f : List ℕ → Read A) → ((l : List ℕ) → Gets P (f l)) → (l : List ℕ) → Gets P (after_gap f l)
-gets-gap P f g l = gets-bind (λ _. Unit {0}) P _ (λ _ k _. g k) (gap_of l) (gets-any (λ _. Unit {0}) (λ _. tt) (gap_of l))
-
-pub gets-whole : {A : Type 0} (P : A → Type 0) (f : List ℕ → Read A) → ((l : List ℕ) → Gets P (f l)) → (l : List ℕ) → Gets P (whole_of f l)
-unfolding whole_of
-gets-whole P f g l =
-    gets-bind P P _ (λ a k p. gets-cond P (is_nil (past is_space k)) (got a []) refused p tt) (f (past is_space l)) (g (past is_space l))

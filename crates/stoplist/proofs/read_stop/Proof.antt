@@ -3,43 +3,74 @@ use mathlib.Core.Path.{◌≡◌}
 use mathlib.Core.List.{List}
 use Prim.Native.Nat.{ℕ}
 use borrow.Author.Rules.{rules}
-use Rattle.text.specs.Text.{Read, got, refused}
-use Rattle.text.proofs.Laws.{seen, or-first, or-second}
-use Rattle.gradient.specs.declared.Stop.{Stop}
+use Rattle.text.specs.Text.{got, refused, after_gap}
+use Rattle.text.proofs.Laws.{seen}
+use Rattle.gradient.specs.declared.Color.{Color}
+use Rattle.gradient.specs.declared.Position.{Position}
+use Rattle.gradient.specs.declared.Position.TheVariants as P
 use Rattle.tokens.specs.Cut.{cut}
-use Rattle.stoplist.specs.Stops.{color_first, color_last, stop_of}
-use Rattle.stoplist.specs.View.{view_stop}
+use Rattle.tokens.specs.Color.{color_of}
+use Rattle.tokens.specs.View.{view_color}
+use Rattle.stoplist.specs.Stops.{stop, stop_position_of, stop_of}
+use Rattle.stoplist.specs.View.{view_position}
 use Rattle.stoplist.proofs.read_stop.Statement.{statement}
 use Rattle.stoplist.proofs.read_stop.Tie as tie
 
 module _ (l : List ℕ) where
-  first : {ss : List Stop} {k : List ℕ} → got ss k ≡ color_first cut l → got ss k ≡ stop_of cut l
+  no-color : refused ≡ color_of l → refused ≡ stop_of cut l
   unfolding stop_of
-  first h = or-first _ h
+  no-color h = rw (← h)
 
-  last : refused ≡ color_first cut l → {x : Read (List Stop)} → x ≡ color_last cut l → x ≡ stop_of cut l
-  unfolding stop_of
-  last h e = or-second h e
+  module _ {v : Color} {k : List ℕ} (h : got v k ≡ color_of l) where
+    placed : {p : Position} {e : List ℕ} → got p e ≡ after_gap (stop_position_of cut) k → got (stop v p) e ≡ stop_of cut l
+    unfolding stop_of
+    placed q = rw (← h, ← q)
 
-color-first-requires : tie.Need-color-first-requires
-color-first-requires c κs = search rules
+    bare : refused ≡ after_gap (stop_position_of cut) k → got (stop v P.Auto) k ≡ stop_of cut l
+    unfolding stop_of
+    bare q = rw (← h, ← q)
 
-enum-known-w : tie.Need-enum-known-w
-enum-known-w c = search rules
+read-color-requires : tie.Need-read-color-requires
+read-color-requires c κs = search rules
 
-returns : tie.Need-returns
-returns c = first _ (seen (view_stop _) c.before.w.given.1 c.before.before.before.color-first.ensures)
+enum-known-v : tie.Need-enum-known-v
+enum-known-v c = search rules
 
 enum_told : tie.Need-enum-told
 enum_told c = search rules
 
-color-last-requires : tie.Need-color-last-requires
-color-last-requires c κs = search rules
+returns : tie.Need-returns
+returns c = no-color _ (seen (view_color _) c.enum_told.given.1 c.before.before.read-color.ensures)
+
+second-position-requires : tie.Need-second-position-requires
+second-position-requires c κs = search rules
+
+enum-known-p : tie.Need-enum-known-p
+enum-known-p c = search rules
 
 returns-2 : tie.Need-returns-2
-returns-2 c = last _ (seen (view_stop _) c.before.enum_told.given.1 c.before.before.before.color-first.ensures) c.color-last.ensures
+returns-2 c =
+    placed _ (seen (view_color _) c.before.before.before.before.before.v.given.1 c.before.before.before.before.before.before.before.read-color.ensures)
+    (seen (view_position _) c.before.p.given.1 c.before.before.before.second-position.ensures)
+
+enum-told-2 : tie.Need-enum-told-2
+enum-told-2 c = search rules
+
+returns-3 : tie.Need-returns-3
+returns-3 c =
+    bare _ (seen (view_color _) c.before.before.before.before.v.given.1 c.before.before.before.before.before.before.read-color.ensures)
+    (seen (view_position _) c.enum-told2.given.1 c.before.before.second-position.ensures)
 
 pub read-stop-spec : {M : Type 1} → statement M
 read-stop-spec =
     tie.close
-    (tie.spec color-first-requires enum-known-w returns enum_told color-last-requires returns-2)
+    (tie.spec
+    read-color-requires
+    enum-known-v
+    enum_told
+    returns
+    second-position-requires
+    enum-known-p
+    returns-2
+    enum-told-2
+    returns-3)

@@ -12,7 +12,7 @@ const BLOCK: usize = PERIOD * 64;
 const AROUND: usize = 1 << 17;
 
 /// Bytes that stand after a text in memory: a reader that goes on past the end would find them.
-const TAILS: [&[u8]; 8] = [b")", b" )", b",red)", b"px)", b"0)", b"e,blue)", b" 9px)", b" red)"];
+const TAILS: [&[u8]; 6] = [b")", b" )", b",red)", b"px)", b"0)", b"e,blue)"];
 
 /// The seed and the place in the run, for a message.
 #[derive(Clone, Copy)]

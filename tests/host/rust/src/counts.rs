@@ -5,7 +5,6 @@ use std::collections::BTreeMap;
 use crate::expected::needed;
 use crate::library::{Call, Export, EXPORTS};
 use crate::repeat_counts::RepeatCounts;
-use crate::stop_counts::StopCounts;
 use crate::strip_counts::StripCounts;
 
 const CLAUSES: [&str; 48] = [
@@ -31,7 +30,6 @@ pub struct Counts {
     replies: [[u64; 9]; EXPORTS.len()],
     pub strips: StripCounts,
     repeats: RepeatCounts,
-    stops: StopCounts,
     pixels: u64,
     pub texts: u64,
     clauses: BTreeMap<&'static str, u64>,
@@ -51,9 +49,8 @@ fn replies_of(export: Export) -> &'static [usize] {
 impl Counts {
     pub fn new() -> Counts {
         let clauses = CLAUSES.iter().map(|name| (*name, 0)).collect();
-        let (strips, repeats, stops) = (StripCounts::new(), RepeatCounts::new(), StopCounts::new());
-        let (replies, bytes) = ([[0; 9]; EXPORTS.len()], [false; 256]);
-        Counts { replies, strips, repeats, stops, pixels: 0, texts: 0, clauses, bytes }
+        let (strips, repeats) = (StripCounts::new(), RepeatCounts::new());
+        Counts { replies: [[0; 9]; EXPORTS.len()], strips, repeats, pixels: 0, texts: 0, clauses, bytes: [false; 256] }
     }
 
     pub fn call(&mut self, call: &Call, reply: u32) {
@@ -67,9 +64,6 @@ impl Counts {
         }
         if call.export.draws_rows() {
             self.strips.call(call, reply);
-        }
-        if call.export.takes_text() {
-            self.stops.call(call, reply);
         }
         if call.export == Export::Png {
             self.file(call, reply);
@@ -122,7 +116,6 @@ impl Counts {
         }
         self.strips.print();
         self.repeats.print();
-        self.stops.print();
     }
 
     /// The replies and clauses that the run should have reached and has not.
@@ -139,7 +132,6 @@ impl Counts {
         list.extend(clauses.map(|name| name.to_string()));
         list.extend(self.strips.missing());
         list.extend(self.repeats.missing());
-        list.extend(self.stops.missing());
         list
     }
 }

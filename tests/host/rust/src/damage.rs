@@ -13,8 +13,6 @@ const WORDS: [&str; 42] = [
     "45deg", "0deg", "45.1deg", "1e2px", ",", ")",
 ];
 
-const NUMBERS: [&str; 8] = ["0", "15px", "7%", "-.5px", "-1000%", "8192.001px", "5deg", "0deg"];
-
 /// Any text: most from the grammar, the rest damaged, mixed from words, or of a special length.
 pub fn text(chance: &mut Chance) -> Vec<u8> {
     match chance.below(100) {
@@ -32,12 +30,10 @@ fn damaged(chance: &mut Chance) -> Vec<u8> {
         if text.is_empty() {
             break;
         }
-        match chance.below(5) {
+        match chance.below(3) {
             0 => change_byte(chance, &mut text),
             1 => change_part(chance, &mut text),
-            2 => change_words(chance, &mut text),
-            3 => change_commas(chance, &mut text),
-            _ => change_item(chance, &mut text),
+            _ => change_words(chance, &mut text),
         }
         if chance.one_in(2) {
             break;
@@ -108,72 +104,13 @@ fn change_words(chance: &mut Chance, text: &mut Vec<u8>) {
     *text = words.join(&b' ');
 }
 
-/// The brackets and commas.
-fn cuts(text: &[u8]) -> Vec<usize> {
-    (0..text.len()).filter(|k| b"(,)".contains(&text[*k])).collect()
-}
-
-/// One item, mostly a stop, with a word dropped, doubled, swapped with another, moved to the other end, added or
-/// changed, or with two words that are no longer apart.
-fn change_item(chance: &mut Chance, text: &mut Vec<u8>) {
-    let cuts = cuts(text);
-    if cuts.len() < 2 {
-        return;
-    }
-    let at = chance.below(cuts.len() - 1);
-    let (from, to) = (cuts[at] + 1, cuts[at + 1]);
-    let spaced = text[from..to].split(|b| WHITE.contains(b)).filter(|word| !word.is_empty());
-    let mut words: Vec<Vec<u8>> = spaced.map(<[u8]>::to_vec).collect();
-    let number = chance.pick(&NUMBERS).as_bytes().to_vec();
-    let (k, other) = (chance.below(words.len().max(1)), chance.below(words.len().max(1)));
-    match chance.below(9) {
-        _ if words.is_empty() => words.push(number),
-        0 => drop(words.remove(k)),
-        1 => words.insert(k, words[k].clone()),
-        2 => words.swap(k, other),
-        3 => words.rotate_left(1),
-        4 => words.rotate_right(1),
-        5 => words.insert(0, number),
-        6 => words.push(number),
-        7 => words[k] = number,
-        _ if k + 1 < words.len() => {
-            let second = words.remove(k + 1);
-            words[k].extend(second);
-        }
-        _ => {}
-    }
-    text.splice(from..to, words.join(&b' '));
-}
-
-/// A comma in place of white space or the other way round, no items from a comma on, no bracket at the end, or a
-/// number that may be taken for a direction or not.
-fn change_commas(chance: &mut Chance, text: &mut Vec<u8>) {
-    let white: Vec<usize> = (0..text.len()).filter(|k| WHITE.contains(&text[*k])).collect();
-    let cuts = cuts(text);
-    match chance.below(5) {
-        0 if !white.is_empty() => text[*chance.pick(&white)] = b',',
-        1 if cuts.len() > 2 => text[*chance.pick(&cuts[1..cuts.len() - 1])] = b' ',
-        2 if cuts.len() > 2 => {
-            let from = *chance.pick(&cuts[1..cuts.len().min(4) - 1]);
-            text.drain(from..cuts[cuts.len() - 1]);
-        }
-        3 if cuts.len() > 2 => text.truncate(cuts[cuts.len() - 1]),
-        4 if !cuts.is_empty() => {
-            let number = chance.pick(&["0,", "0 ", "0deg,", "0deg "]).bytes();
-            text.splice(cuts[0] + 1..cuts[0] + 1, number);
-        }
-        _ => {}
-    }
-}
-
 fn from_words(chance: &mut Chance) -> Vec<u8> {
     let mut text = chance.pick(&WORDS[..4]).as_bytes().to_vec();
     for _ in 0..chance.below(12) {
         text.extend_from_slice(chance.pick(&WORDS).as_bytes());
         text.extend_from_slice(chance.pick(&[" ", ",", ", ", ""]).as_bytes());
     }
-    let ends = ["red, #0008 50%, white)", "0 red, #0008 7% 5px)", "red 0 5px)", "0 5px red)"];
-    text.extend_from_slice(chance.pick(&ends).as_bytes());
+    text.extend_from_slice(b"red, #0008 50%, white)");
     text
 }
 

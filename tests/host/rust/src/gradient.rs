@@ -49,14 +49,14 @@ pub const PERCENTAGE_LIMIT: i64 = 1_000_000;
 pub const ANGLE_LIMIT: i64 = 3_600_000;
 pub const QUARTER_DEGREE: i64 = 250;
 
-pub fn amount_fits(amount: Amount) -> bool {
+fn amount_fits(amount: Amount) -> bool {
     match amount {
         Amount::Length(v) => v.abs() <= LENGTH_LIMIT,
         Amount::Percentage(v) => v.abs() <= PERCENTAGE_LIMIT,
     }
 }
 
-pub fn shape_fits(shape: &Shape) -> bool {
+fn shape_fits(shape: &Shape) -> bool {
     match *shape {
         Shape::Linear(Direction::Toward(..)) => true,
         Shape::Linear(Direction::Angle(v)) => v.abs() <= ANGLE_LIMIT && v % QUARTER_DEGREE == 0,

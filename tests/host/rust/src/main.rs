@@ -6,7 +6,6 @@ mod compare;
 mod counts;
 mod damage;
 mod expected;
-mod faults;
 mod gradient;
 mod grid;
 mod layout;
@@ -22,9 +21,6 @@ mod repeats;
 mod report;
 mod sines;
 mod spelling;
-mod stop_cases;
-mod stop_counts;
-mod stops;
 mod strip_counts;
 mod strips;
 mod sweeps;
@@ -82,14 +78,12 @@ fn random_text(compare: &mut Compare, case: u64) -> Result<(), String> {
 fn run(options: &Options) -> Result<(), String> {
     let mut compare = Compare::new(options.seed);
     worked::model()?;
-    stops::model()?;
     if let Some(case) = options.case {
         return random_text(&mut compare, case);
     }
     worked::library(&mut compare)?;
     compare.place.number = 0;
     sweeps::all(&mut compare)?;
-    stops::all(&mut compare)?;
     repeats::flags(&mut compare)?;
     strips::refusals(&mut compare)?;
     strips::large(&mut compare)?;

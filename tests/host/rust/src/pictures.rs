@@ -10,7 +10,7 @@ use crate::strips;
 
 const FULL: (usize, usize) = (2048, 2048);
 
-const PICTURES: [(&str, Export, (usize, usize)); 27] = [
+const PICTURES: [(&str, Export, (usize, usize)); 25] = [
     ("linear-gradient(37.25deg, red, white 30%, blue)", Export::Draw, FULL),
     ("linear-gradient(to top left, black, white)", Export::Draw, FULL),
     ("linear-gradient(to left, #f008, lime 20%, transparent)", Export::Draw, FULL),
@@ -38,8 +38,6 @@ const PICTURES: [(&str, Export, (usize, usize)); 27] = [
     ("repeating-radial-gradient(circle, black -0.016px, white 0px, red 0.5px)", Export::DrawStops, FULL),
     ("repeating-linear-gradient(12deg, red 7px, #0f08 7px, blue 3px)", Export::Draw, FULL),
     ("repeating-linear-gradient(200.5deg, #f008 -8192px, #0f0c -8000px, transparent -7900px)", Export::Png, FULL),
-    ("linear-gradient(37.25deg, red 0 300px, 25% 50% white, #00f8 60% 55%, 90% blue)", Export::Draw, FULL),
-    ("repeating-radial-gradient(circle at 30% 70.5px, red 0 8px, 8px 20.5px #0007)", Export::Draw, FULL),
 ];
 
 pub fn all(compare: &mut Compare) -> Result<(), String> {

@@ -1,36 +1,15 @@
 //! From a text to a gradient. The text is cut at commas, each item into words, each word is
 //! given its kind, and an item is in the grammar if its kinds match one of a few patterns.
 
-use crate::gradient::{judge_ranges, Amount, Color, Direction, Gradient, Shape, Size, Stop, MOST_STOPS};
+use crate::gradient::{judge_ranges, Amount, Direction, Gradient, Shape, Size, Stop, MOST_STOPS};
 use crate::words::{classify, is_white, Key, Word};
 
 pub const LONGEST_TEXT: usize = 1024;
 
 pub struct Reading {
     pub gradient: Gradient,
-    /// The stops as they are written.
-    pub written: Vec<Written>,
     /// The clauses of the grammar that the text uses.
     pub clauses: Vec<&'static str>,
-}
-
-/// One stop as it is written, with up to two positions on one side of its color.
-pub struct Written {
-    pub color: Color,
-    pub positions: Vec<Amount>,
-    /// Whether they stand before the color.
-    pub before: bool,
-}
-
-impl Written {
-    /// One stop for each position, or a single one without.
-    pub fn stops(&self) -> Vec<Stop> {
-        let stop = |position| Stop { color: self.color, position };
-        match self.positions.is_empty() {
-            true => vec![stop(None)],
-            false => self.positions.iter().map(|amount| stop(Some(*amount))).collect(),
-        }
-    }
 }
 
 /// The gradient of a text, or the reply 3, 4, 5 or 6.
@@ -64,8 +43,7 @@ fn item(text: &[u8]) -> Option<Item> {
     text.split(|b| is_white(*b)).filter(|word| !word.is_empty()).map(classify).collect()
 }
 
-/// What a text in the grammar says, whatever its numbers are and however many stops it has.
-pub fn parse(text: &[u8]) -> Option<Reading> {
+fn parse(text: &[u8]) -> Option<Reading> {
     let (name, items) = take_apart(text)?;
     let mut clauses = Vec::new();
     let (repeating, kind) = match name.strip_prefix(b"repeating-") {
@@ -80,14 +58,12 @@ pub fn parse(text: &[u8]) -> Option<Reading> {
     if repeating {
         clauses.push(if kind == b"linear-gradient" { "repeating line" } else { "repeating circle" });
     }
-    let written: Option<Vec<Written>> = rest.iter().map(|words| written(words)).collect();
-    let written = written?;
-    let stops: Vec<Stop> = written.iter().flat_map(Written::stops).collect();
-    clauses.extend(stops.iter().map(|stop| unit_clause(stop.position)));
+    let stops: Option<Vec<Stop>> = rest.iter().map(|words| stop(words, &mut clauses)).collect();
+    let stops = stops?;
     if stops.len() == MOST_STOPS {
         clauses.push("16 stops");
     }
-    (written.len() >= 2).then_some(Reading { gradient: Gradient { repeating, shape, stops }, written, clauses })
+    (stops.len() >= 2).then_some(Reading { gradient: Gradient { repeating, shape, stops }, clauses })
 }
 
 fn linear<'a>(items: &'a [Item], clauses: &mut Vec<&'static str>) -> (Shape, &'a [Item]) {
@@ -168,23 +144,16 @@ fn center(words: &[Word], clauses: &mut Vec<&'static str>) -> Option<(Amount, Am
     Some(found)
 }
 
-pub fn written(words: &[Word]) -> Option<Written> {
-    use Word::{Amount as Position, Color};
-    let (color, positions, before) = match words {
-        [Color(color)] => (color, vec![], false),
-        [Color(color), Position(a)] => (color, vec![*a], false),
-        [Color(color), Position(a), Position(b)] => (color, vec![*a, *b], false),
-        [Position(a), Color(color)] => (color, vec![*a], true),
-        [Position(a), Position(b), Color(color)] => (color, vec![*a, *b], true),
+fn stop(words: &[Word], clauses: &mut Vec<&'static str>) -> Option<Stop> {
+    let (color, position) = match words {
+        [Word::Color(color)] => (*color, None),
+        [Word::Color(color), Word::Amount(amount)] => (*color, Some(*amount)),
         _ => return None,
     };
-    Some(Written { color: *color, positions, before })
-}
-
-fn unit_clause(position: Option<Amount>) -> &'static str {
-    match position {
+    clauses.push(match position {
         None => "stop without position",
         Some(Amount::Length(_)) => "stop with length",
         Some(Amount::Percentage(_)) => "stop with percentage",
-    }
+    });
+    Some(Stop { color, position })
 }

@@ -210,12 +210,8 @@ fn refused_text(chance: &mut Chance, list: &[u32]) -> Vec<u8> {
         false => ["linear-gradient(45deg", "radial-gradient(5px"],
     };
     let head = *chance.pick(&heads);
-    let stops = match (list.contains(&6), chance.one_in(2)) {
-        (true, true) => ", red 0 1px".repeat(9),
-        (true, false) => ", red".repeat(17),
-        (false, _) => ", red".repeat(2),
-    };
-    let tail = if list.contains(&4) { *chance.pick(&["", ",)", "))", ", 0 red 1px)"]) } else { ")" };
+    let stops = ", red".repeat(if list.contains(&6) { 17 } else { 2 });
+    let tail = if list.contains(&4) { *chance.pick(&["", ",)", "))"]) } else { ")" };
     let text = format!("{head}{stops}{tail}");
     let length = if list.contains(&3) { 1025 + chance.below(3) } else { text.len() };
     format!("{text:<length$}").into_bytes()

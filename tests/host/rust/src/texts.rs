@@ -135,58 +135,24 @@ fn how_many(chance: &mut Chance) -> usize {
     match chance.below(40) {
         0 => 16,
         1 => 17,
-        2 => *chance.pick(&[18, 32]),
+        2 => 18,
         3 => 3 + chance.below(38),
         4..=9 => 6 + chance.below(11),
-        _ => 2 + chance.below(5),
-    }
-}
-
-/// How many stops each one that is written stands for, one or two; at least two are written.
-fn sizes(chance: &mut Chance, count: usize) -> Vec<usize> {
-    let often = *chance.pick(&[0, 1, 1, 2, 3, 4]);
-    let (mut sizes, mut left) = (Vec::new(), count);
-    while left > 0 {
-        let size = if count > 2 && left > 1 && chance.below(4) < often { 2 } else { 1 };
-        sizes.push(size);
-        left -= size;
-    }
-    sizes
-}
-
-#[derive(Clone, Copy)]
-enum Part {
-    Color,
-    Amount,
-    Length(i64),
-}
-
-/// A color and its positions, on either side of it.
-fn stop(text: &mut Spelling, positions: &[Part]) {
-    let parts = match text.chance.one_in(3) {
-        true => [positions, &[Part::Color]].concat(),
-        false => [&[Part::Color], positions].concat(),
-    };
-    for (k, part) in parts.into_iter().enumerate() {
-        if k > 0 {
-            text.gap();
-        }
-        match part {
-            Part::Color => text.color(),
-            Part::Amount => text.amount(),
-            Part::Length(at) => text.number(at, "px"),
-        }
+        _ => 2 + chance.below(4),
     }
 }
 
 fn stops(text: &mut Spelling) {
     let count = how_many(text.chance);
-    for (k, size) in sizes(text.chance, count).into_iter().enumerate() {
+    for k in 0..count {
         if k > 0 {
             comma(text);
         }
-        let bare = size == 1 && text.chance.one_in(2);
-        stop(text, &[Part::Amount; 2][..if bare { 0 } else { size }]);
+        text.color();
+        if text.chance.one_in(2) {
+            text.gap();
+            text.amount();
+        }
     }
 }
 
@@ -194,22 +160,18 @@ fn stops(text: &mut Spelling) {
 fn periodic_stops(text: &mut Spelling) {
     let count = how_many(text.chance);
     let (first, last) = ends(text.chance, 1000, LENGTH_LIMIT);
-    let sizes = sizes(text.chance, count);
-    for (k, size) in sizes.iter().enumerate() {
+    for k in 0..count {
         if k > 0 {
             comma(text);
         }
-        let inner = k > 0 && k + 1 < sizes.len();
-        let bare = inner && *size == 1 && text.chance.one_in(2);
-        let count = if bare { 0 } else { *size };
-        let mut places: Vec<i64> = (0..count).map(|_| text.chance.between(first, last)).collect();
-        if k == 0 {
-            places[0] = first;
-        }
-        if k + 1 == sizes.len() {
-            places[size - 1] = last;
-        }
-        let parts: Vec<Part> = places.into_iter().map(Part::Length).collect();
-        stop(text, &parts);
+        text.color();
+        let at = match k {
+            0 => first,
+            _ if k + 1 == count => last,
+            _ if text.chance.one_in(2) => continue,
+            _ => text.chance.between(first, last),
+        };
+        text.gap();
+        text.number(at, "px");
     }
 }

@@ -11,13 +11,12 @@ use crate::library::{Call, Export};
 use crate::png::{adler, crc, file};
 use crate::reading::read;
 use crate::sines::table_is_sound;
-use crate::stop_cases;
 use crate::strips;
 
 const GRAYS: [u8; 16] = [32, 32, 32, 255, 96, 96, 96, 255, 159, 159, 159, 255, 223, 223, 223, 255];
 
 /// Charts with all their bytes.
-const DRAWN: [(&str, &str, Area, &[u8]); 21] = [
+const DRAWN: [(&str, &str, Area, &[u8]); 12] = [
     ("P1", "linear-gradient(to right, black, white)", (4, 1), &GRAYS),
     ("P2", "linear-gradient(to right, red, transparent)", (2, 1), &[191, 0, 0, 191, 64, 0, 0, 64]),
     ("P9", "radial-gradient(circle at 0.5px 0.5px, red -50px, yellow 100px)", (1, 1), &[255, 85, 0, 255]),
@@ -37,26 +36,7 @@ const DRAWN: [(&str, &str, Area, &[u8]); 21] = [
     ("one of four", "repeating-linear-gradient(#f00 5px, #000 4px, #333 3px, #f00 2px)", (1, 1), &[102, 17, 17, 255]),
     // 45 units from the center, and 101, which is 5 more than two periods of 48: 239.06 and 26.56
     ("rings", "repeating-radial-gradient(circle at 0 0, black, white 0.75px)", (2, 1), &RINGS),
-    ("two positions", "linear-gradient(to right, red 0 2px, blue 2px 4px)", (4, 1), &HALVES),
-    ("two positions first", "linear-gradient(to right, 0 50% red, 2px 100% blue)", (4, 1), &HALVES),
-    ("one position first", "linear-gradient(to right, 2px red, 2px blue)", (4, 1), &HALVES),
-    // black up to 128, white from 192 on, 160 halfway between: 127.5
-    ("a ramp after a bar", "linear-gradient(to right, black 1px 2px, 3px white)", (4, 1), &RAMP),
-    // the second position is raised to the first, 128; then 32 and 96 of 128 units
-    ("second below first", "linear-gradient(to right, black 2px 0, white 4px)", (4, 1), &LATE),
-    ("bars of two stops", "repeating-linear-gradient(90deg, red -3px -2px, -2px -1px blue)", (2, 1), &BARS),
-    // five stops: (2 * 255 + 2 * 255 + 255) / 8 is 159.375, and (255 + 255) / 8 is 63.75
-    ("one color of five", "repeating-linear-gradient(red 0 0, white 0, 0 0 blue)", (1, 1), &[159, 64, 159, 255]),
-    // 45 and 101 units from the center, black up to 32, white from 96 on: 13 of 64 units are 51.797
-    ("a ring", "radial-gradient(2px at 0 0, 0 25% black, 75% white)", (2, 1), &[52, 52, 52, 255, 255, 255, 255, 255]),
-    // 45, and 101 moved by one period of 96 to 5
-    ("rings of two stops", "repeating-radial-gradient(5px at 0 0, red 0 0.5px, lime 0.5px 1.5px)", (2, 1), &LIME_RED),
 ];
-
-const HALVES: [u8; 16] = [255, 0, 0, 255, 255, 0, 0, 255, 0, 0, 255, 255, 0, 0, 255, 255];
-const RAMP: [u8; 16] = [0, 0, 0, 255, 0, 0, 0, 255, 128, 128, 128, 255, 255, 255, 255, 255];
-const LATE: [u8; 16] = [0, 0, 0, 255, 0, 0, 0, 255, 64, 64, 64, 255, 191, 191, 191, 255];
-const LIME_RED: [u8; 8] = [0, 255, 0, 255, 255, 0, 0, 255];
 
 const TWICE: [u8; 16] = [64, 64, 64, 255, 191, 191, 191, 255, 64, 64, 64, 255, 191, 191, 191, 255];
 const SEAM: [u8; 8] = [85, 0, 0, 255, 255, 0, 0, 255];
@@ -65,7 +45,7 @@ const RED: [u8; 8] = [255, 0, 0, 255, 255, 0, 0, 255];
 const RINGS: [u8; 8] = [239, 239, 239, 255, 27, 27, 27, 255];
 
 /// Charts with the places of their stops.
-const PLACED: [(&str, &str, Area, &[i64]); 20] = [
+const PLACED: [(&str, &str, Area, &[i64]); 13] = [
     ("P3", "linear-gradient(to top right, black, white)", (3, 4), &[0, 307]),
     ("P4", "linear-gradient(to right, red 40%, white, black, blue)", (200, 1), &[5120, 7680, 10_240, 12_800]),
     ("P5", "linear-gradient(to right, red -50%, white, blue)", (200, 1), &[-6400, 3200, 12_800]),
@@ -79,13 +59,6 @@ const PLACED: [(&str, &str, Area, &[i64]); 20] = [
     ("a run of thirds", "linear-gradient(to right, red, white, black, blue 1px)", (200, 1), &[0, 21, 43, 64]),
     ("closest-corner", "radial-gradient(circle closest-corner at 3px 4px, red, blue)", (20, 20), &[0, 320]),
     ("a radius of 0", "radial-gradient(0px, red -10%, blue, lime 500%)", (3, 3), &[0, 0, 0]),
-    ("T-05", "linear-gradient(to right, red 0 15px, blue)", (200, 1), &[0, 960, 12_800]),
-    ("two and two", "linear-gradient(to right, 4% 2% red, lime, blue 9% 8px)", (200, 1), &[512, 512, 832, 1152, 1152]),
-    ("two in the middle", "linear-gradient(to right, red, 10px 5px white, blue)", (200, 1), &[0, 640, 640, 12_800]),
-    ("both units", "linear-gradient(to right, red 10% 20px, -5px 50% blue)", (200, 1), &[1280, 1280, 1280, 6400]),
-    ("two below 0", "linear-gradient(to right, red, white -10px -5px, blue -0.016px)", (200, 1), &[0, 0, 0, 0]),
-    ("a run between", "linear-gradient(red 0 1px, white, black, 2px 3px blue)", (1, 9), &[0, 64, 85, 107, 128, 192]),
-    ("two in a circle", "radial-gradient(50px at 0 0, red 50% 10px, 200% blue)", (9, 9), &[1600, 1600, 6400]),
 ];
 
 /// The file of one red pixel; its zlib stream was made by zlib itself.
@@ -163,9 +136,6 @@ pub fn model() -> Result<(), String> {
         let call = Call { export: Export::Draw, first: text.as_bytes(), second: &[], area, rows: (0, area.1), lent };
         same(&text, reply, settle(&call, &right).0)?;
     }
-    for (text, reply) in stop_cases::replies() {
-        same(&text, reply, read(text.as_bytes()).err().unwrap_or(0))?;
-    }
     corner()
 }
 
@@ -184,9 +154,8 @@ pub fn library(compare: &mut Compare) -> Result<(), String> {
     let drawn = DRAWN.iter().map(|(_, text, area, _)| (text.to_string(), *area));
     let placed = PLACED.iter().map(|(_, text, area, _)| (text.to_string(), *area));
     let refused = replies().into_iter().map(|(text, area, _, _)| (text, area));
-    let stops = stop_cases::replies().into_iter().map(|(text, _)| (text, (4, 1)));
     compare.place.part = "worked chart";
-    for (k, (text, area)) in drawn.chain(placed).chain(refused).chain(stops).enumerate() {
+    for (k, (text, area)) in drawn.chain(placed).chain(refused).enumerate() {
         compare.place.number = k as u64 + 1;
         let mut chance = Chance::new(compare.place.seed, k as u64);
         text_case(compare, &mut chance, text.as_bytes(), area)?;
