@@ -7,14 +7,14 @@ use gradient::{
 };
 
 // A box, in pixels.
-#[derive(Drop)]
+#[derive(Clone, Copy)]
 pub struct Area {
     pub width: usize,
     pub height: usize,
 }
 
 // Rows of a box, from the first up to the end.
-#[derive(Drop)]
+#[derive(Clone, Copy)]
 pub struct Rows {
     pub first: usize,
     pub end: usize,

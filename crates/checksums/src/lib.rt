@@ -1,5 +1,7 @@
 // The checksums of a PNG file: CRC-32 of its chunks, Adler-32 of its zlib stream. Each goes on from the checksum of the bytes before, so that a file
 // can be summed part by part.
+#![tactic(auto)]
+
 ghost use Rattle.std.specs.Prelude.{◌≡◌};
 ghost use Rattle.checksums.specs.Crc.{bit_step, byte_step, crc};
 ghost use Rattle.checksums.specs.Adler.{adler};

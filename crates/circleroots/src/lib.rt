@@ -24,7 +24,7 @@ const NEAR_SQUARE: u64 = (64 * 7) * (64 * 7);
 const SHORT_SQUARE: u64 = 8796093022208;
 
 // Which of the two rows above have their locations in the lists: none; the row above, in `last`; or also the row above that, in `before`.
-#[derive(Drop)]
+#[derive(Clone, Copy)]
 pub enum RowsKnown {
     None,
     One,

@@ -11,14 +11,14 @@ use gradient::{Coordinate, Extent, Horizontal, Shape, Size, Vertical};
 use text::{Cursor, Match};
 use tokens::{NumberRead, Unit};
 
-#[derive(Drop)]
+#[derive(Clone, Copy)]
 pub enum CoordinateRead {
     Got(Coordinate, Cursor),
     Refused,
 }
 
 // A part of a position: a word for one axis or for either, or a length or percentage.
-#[derive(Drop)]
+#[derive(Clone, Copy)]
 pub enum Part {
     Across(Horizontal),
     Down(Vertical),
@@ -26,52 +26,52 @@ pub enum Part {
     At(Coordinate),
 }
 
-#[derive(Drop)]
+#[derive(Clone, Copy)]
 pub enum PartRead {
     Got(Part, Cursor),
     Refused,
 }
 
 // A part taken along one axis, where it can be.
-#[derive(Drop)]
+#[derive(Clone, Copy)]
 pub enum Axis {
     At(Coordinate),
     Not,
 }
 
 // Where a circle's center is.
-#[derive(Drop)]
+#[derive(Clone, Copy)]
 pub struct Place {
     pub x: Coordinate,
     pub y: Coordinate,
 }
 
 // Two parts taken together, where they can be.
-#[derive(Drop)]
+#[derive(Clone, Copy)]
 pub enum Pair {
     At(Place),
     Not,
 }
 
-#[derive(Drop)]
+#[derive(Clone, Copy)]
 pub enum PlaceRead {
     Got(Place, Cursor),
     Refused,
 }
 
-#[derive(Drop)]
+#[derive(Clone, Copy)]
 pub enum ExtentRead {
     Got(Extent, Cursor),
     Refused,
 }
 
-#[derive(Drop)]
+#[derive(Clone, Copy)]
 pub enum SizeRead {
     Got(Size, Cursor),
     Refused,
 }
 
-#[derive(Drop)]
+#[derive(Clone, Copy)]
 pub enum ShapeRead {
     Got(Shape, Cursor),
     Refused,

@@ -17,7 +17,7 @@ use numbers::biased;
 use stops::PlacedStops;
 
 // A pixel's four bytes, premultiplied.
-#[derive(Drop)]
+#[derive(Clone, Copy)]
 pub struct Rgba {
     pub red: u8,
     pub green: u8,

@@ -9,19 +9,19 @@ use gradient::{Direction, Horizontal, Side, Vertical};
 use text::{Cursor, Match};
 use tokens::{NumberRead, Unit};
 
-#[derive(Drop)]
+#[derive(Clone, Copy)]
 pub enum HorizontalRead {
     Got(Horizontal, Cursor),
     Refused,
 }
 
-#[derive(Drop)]
+#[derive(Clone, Copy)]
 pub enum VerticalRead {
     Got(Vertical, Cursor),
     Refused,
 }
 
-#[derive(Drop)]
+#[derive(Clone, Copy)]
 pub enum DirectionRead {
     Got(Direction, Cursor),
     Refused,

@@ -27,7 +27,7 @@ const HIGH_FACTOR: u64 = 17179869184;
 const LOW_FACTOR: u64 = 67108864;
 
 // How far half a pixel across and half a pixel down go along the line, in units, in fixed point.
-#[derive(Drop)]
+#[derive(Clone, Copy)]
 pub struct Steps {
     pub across: u64,
     pub down: u64,
@@ -57,7 +57,7 @@ pub fn steps_of(v: SignedVector) -> Steps
 }
 
 // The places of a row's pixels: that of pixel i is first + forth·i − back·i, where forth or back is 0.
-#[derive(Drop)]
+#[derive(Clone, Copy)]
 pub struct RowLine {
     pub first: u64,
     pub forth: u64,

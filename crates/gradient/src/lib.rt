@@ -1,4 +1,6 @@
 // The gradient as a value, and which values are gradients. Document 01 calls it a chart. Every number is in thousandths, as the text gives it.
+#![tactic(auto)]
+
 ghost use Rattle.std.specs.Prelude.{◌≡◌};
 ghost use Rattle.gradient.specs.Blank.{blank_stop, blank_gradient, is_clear, is_auto, is_blank};
 ghost use Rattle.gradient.specs.Range.{length_in, radius_in, percentage_in, angle_in, position_in, coordinate_in, direction_in, size_in, shape_in};
@@ -7,7 +9,7 @@ ghost use Rattle.gradient.specs.Check.{blank_past, stops_in, check_of};
 use numbers::magnitude;
 use replies::{DONE, MALFORMED, OUT_OF_RANGE, TOO_MANY_STOPS};
 
-#[derive(Drop)]
+#[derive(Clone, Copy)]
 pub struct Color {
     pub red: u8,
     pub green: u8,
@@ -16,20 +18,20 @@ pub struct Color {
 }
 
 // Where a stop stands: nowhere yet (document 01's unplaced), at a length in px, or at a percentage.
-#[derive(Drop)]
+#[derive(Clone, Copy)]
 pub enum Position {
     Auto,
     Length(i32),
     Percentage(i32),
 }
 
-#[derive(Drop)]
+#[derive(Clone, Copy)]
 pub struct Stop {
     pub color: Color,
     pub position: Position,
 }
 
-#[derive(Drop)]
+#[derive(Clone, Copy)]
 pub enum Side {
     Top,
     Right,
@@ -37,27 +39,27 @@ pub enum Side {
     Left,
 }
 
-#[derive(Drop)]
+#[derive(Clone, Copy)]
 pub enum Vertical {
     Top,
     Bottom,
 }
 
-#[derive(Drop)]
+#[derive(Clone, Copy)]
 pub enum Horizontal {
     Left,
     Right,
 }
 
 // The direction of a linear gradient. An angle is in degrees.
-#[derive(Drop)]
+#[derive(Clone, Copy)]
 pub enum Direction {
     Side(Side),
     Corner(Vertical, Horizontal),
     Angle(i32),
 }
 
-#[derive(Drop)]
+#[derive(Clone, Copy)]
 pub enum Extent {
     ClosestSide,
     ClosestCorner,
@@ -66,20 +68,20 @@ pub enum Extent {
 }
 
 // The size of a circle: an extent, or its radius in px.
-#[derive(Drop)]
+#[derive(Clone, Copy)]
 pub enum Size {
     Extent(Extent),
     Length(i32),
 }
 
 // One coordinate of a circle's center, from the left or from the top.
-#[derive(Drop)]
+#[derive(Clone, Copy)]
 pub enum Coordinate {
     Length(i32),
     Percentage(i32),
 }
 
-#[derive(Drop)]
+#[derive(Clone, Copy)]
 pub enum Shape {
     Linear(Direction),
     Circle(Size, Coordinate, Coordinate),
@@ -87,7 +89,7 @@ pub enum Shape {
 
 // The color stops are the first `count` places of the array, and the places after them are blank. A repeating gradient is one of
 // `repeating-linear-gradient()` or `repeating-radial-gradient()`.
-#[derive(Drop)]
+#[derive(Clone, Copy)]
 pub struct Gradient {
     pub shape: Shape,
     pub repeating: bool,

@@ -16,7 +16,7 @@ use words::{bits, put_word, signed, word_at};
 pub const SIZE: usize = 320;
 
 // The reply to a slice, and the gradient that it holds; a blank one after a refusal.
-#[derive(Drop)]
+#[derive(Clone, Copy)]
 pub struct Taken {
     pub reply: u32,
     pub gradient: Gradient,

@@ -1,4 +1,6 @@
 // The gradient line in a box: its length, and the location of each pixel on it, in units of 1/64 px.
+#![tactic(auto)]
+
 ghost use Rattle.std.specs.Prelude.{◌≡◌, true, ◌+◌, ◌*◌, ◌≤◌, ◌<◌, nat_abs};
 ghost use Rattle.numbers.specs.Biased.{bias, twice_bias, unbiased};
 ghost use Rattle.root.specs.Root.{root_of};
@@ -13,7 +15,7 @@ ghost use Rattle.line.specs.Represented.{is_left, is_top, vector_in, IsVector, B
 use gradient::{Coordinate, Direction, Extent, Horizontal, Shape, Side, Size, Vertical};
 
 // A vector as two sizes, with the signs beside them.
-#[derive(Drop)]
+#[derive(Clone, Copy)]
 pub struct SignedVector {
     pub x: u32,
     pub y: u32,
@@ -22,14 +24,14 @@ pub struct SignedVector {
 }
 
 // A circle's center, both coordinates biased.
-#[derive(Drop)]
+#[derive(Clone, Copy)]
 pub struct BiasedCenter {
     pub x: u32,
     pub y: u32,
 }
 
 // What a pixel's location is measured along or from.
-#[derive(Drop)]
+#[derive(Clone, Copy)]
 pub enum Line {
     Straight(SignedVector),
     Circle(BiasedCenter),

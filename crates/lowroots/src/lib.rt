@@ -35,7 +35,7 @@ pub fn among_4(g: u32, low: u32) -> u32
 // ---- a binary search
 
 // A number that is not above the root, and how far its square is below the number whose root is sought.
-#[derive(Drop)]
+#[derive(Clone, Copy)]
 struct Search {
     from: u32,
     over: u32,

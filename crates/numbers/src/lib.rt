@@ -1,4 +1,6 @@
 // Numbers of either sign, which the code keeps biased: as unsigned numbers 2^25 above them. Lengths and percentages in units of 1/64 px.
+#![tactic(auto)]
+
 ghost use Rattle.std.specs.Prelude.{◌≡◌, ◌%◌, ◌^◌, ◌≤◌, ◌<◌, nat_abs, pos, ◌-ℤ◌};
 ghost use Rattle.numbers.specs.Biased.{bias, twice_bias, biased, unbiased};
 ghost use Rattle.numbers.specs.Units.{rounded, length_units, percentage_units, most_whole};

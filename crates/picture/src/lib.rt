@@ -1,4 +1,6 @@
 // Writes into a lent buffer of bytes, four to a pixel.
+#![tactic(auto)]
+
 ghost use Rattle.std.specs.Prelude.{◌≡◌, ◌∷◌, [], ◌+◌, ◌-◌, ◌≤◌, ◌<◌, length, take, drop, replicate};
 ghost use Rattle.picture.specs.Picture.{patched};
 

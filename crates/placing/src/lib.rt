@@ -17,7 +17,7 @@ use replies::DONE;
 use stops::{PlacedStop, PlacedStops};
 
 // The reply, and the placed stops where it is 0.
-#[derive(Drop)]
+#[derive(Clone, Copy)]
 pub struct Placing {
     pub reply: u32,
     pub stops: PlacedStops,
@@ -110,7 +110,7 @@ fn raise_stops(ps: &mut [u32])
 // ---- (c): the unplaced stops between two placed ones are spaced evenly
 
 // The next placed stop, and how many unplaced ones stand before it.
-#[derive(Drop)]
+#[derive(Clone, Copy)]
 struct Next {
     at: u32,
     run: usize,

@@ -19,14 +19,14 @@ use stoplist::{Listing, StopList};
 use text::{Cursor, Match};
 
 // The reply to a text, and the gradient where it is 0.
-#[derive(Drop)]
+#[derive(Clone, Copy)]
 pub struct Reading {
     pub reply: u32,
     pub gradient: Gradient,
 }
 
 // A gradient as it is written, or none where `found` is false. (An enum cannot hold the array.)
-#[derive(Drop)]
+#[derive(Clone, Copy)]
 pub struct Draft {
     pub found: bool,
     pub shape: Shape,
@@ -35,20 +35,20 @@ pub struct Draft {
 }
 
 // Which function is called, and whether it is the repeating one.
-#[derive(Drop)]
+#[derive(Clone, Copy)]
 pub enum Kind {
     Linear(bool),
     Radial(bool),
 }
 
-#[derive(Drop)]
+#[derive(Clone, Copy)]
 pub enum KindRead {
     Got(Kind, Cursor),
     Refused,
 }
 
 // Where the closing bracket stands.
-#[derive(Drop)]
+#[derive(Clone, Copy)]
 pub enum CloseRead {
     At(usize),
     Missing,

@@ -1,4 +1,6 @@
 // The reply numbers and their order, and what every call judges first: a box, the rows of a strip, and the length of a lent slice.
+#![tactic(auto)]
+
 ghost use Rattle.std.specs.Prelude.{◌≡◌, length, replicate};
 ghost use Rattle.replies.specs.Replies.{lowest};
 ghost use Rattle.replies.specs.Room.{box_in, box_reply, rows_in, rows_reply, size_reply, room_for, strip_reply, room_reply};

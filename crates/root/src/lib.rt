@@ -1,4 +1,6 @@
 // The whole-number root.
+#![tactic(auto)]
+
 ghost use Rattle.std.specs.Prelude.{◌≡◌, ◌+◌, ◌*◌, ◌%◌, ◌<◌, ◌≤◌, true};
 ghost use Rattle.root.specs.Root.{IsRoot, root_of};
 ghost use Rattle.root.specs.Digits.{digits_of};
@@ -11,7 +13,7 @@ fn root_digits(x: u64) -> u32
 }
 
 // A root, and the rounds that it took to find.
-#[derive(Drop)]
+#[derive(Clone, Copy)]
 pub struct Found {
     pub root: u64,
     pub rounds: u32,

@@ -9,7 +9,7 @@ ghost use Rattle.rows.specs.Pixel.{Placed, Drawable, ramp_pixel, strip_of};
 use line::Line;
 
 // Rows a up to b of a box of w by h pixels.
-#[derive(Drop)]
+#[derive(Clone, Copy)]
 pub struct Strip {
     pub w: usize,
     pub h: usize,

@@ -1,4 +1,6 @@
 // The sines of 0 to 90 degrees in quarter degrees, scaled by 16,384 and rounded to nearest.
+#![tactic(auto)]
+
 ghost use Rattle.std.specs.Prelude.{◌≡◌, ◌≤◌};
 ghost use Rattle.sine.specs.Sines.{sine_of};
 

@@ -10,20 +10,20 @@ use gradient::{Position, Stop};
 use text::{Cursor, Match};
 use tokens::{ColorRead, NumberRead, Unit};
 
-#[derive(Drop)]
+#[derive(Clone, Copy)]
 pub enum PositionRead {
     Got(Position, Cursor),
     Refused,
 }
 
-#[derive(Drop)]
+#[derive(Clone, Copy)]
 pub enum StopRead {
     Got(Stop, Cursor),
     Refused,
 }
 
 // The first 16 stops of a list, how many it has (17 where it has more than 16), and whether a number of it is out of its range.
-#[derive(Drop)]
+#[derive(Clone, Copy)]
 pub struct StopList {
     pub stops: [Stop; 16],
     pub count: u32,
@@ -31,7 +31,7 @@ pub struct StopList {
 }
 
 // A list of two stops or more, or none where `found` is false. (An enum cannot hold the array.)
-#[derive(Drop)]
+#[derive(Clone, Copy)]
 pub struct Listing {
     pub found: bool,
     pub list: StopList,

@@ -1,4 +1,6 @@
 // Placed stops as a value, and which values are placed stops.
+#![tactic(auto)]
+
 ghost use Rattle.std.specs.Prelude.{◌≡◌};
 ghost use Rattle.stops.specs.Blank.{blank_placed, no_stops, is_blank_placed};
 ghost use Rattle.stops.specs.Check.{placed_of, rising, blank_past_placed, place_in, places_in, check_placed_of};
@@ -8,14 +10,14 @@ use numbers::magnitude;
 use replies::{DONE, MALFORMED, OUT_OF_RANGE, TOO_MANY_STOPS};
 
 // A stop with its place on the gradient line, in units of 1/64 px.
-#[derive(Drop)]
+#[derive(Clone, Copy)]
 pub struct PlacedStop {
     pub color: Color,
     pub position: i32,
 }
 
 // The stops are the first `count` places of the array, and the places after them are blank.
-#[derive(Drop)]
+#[derive(Clone, Copy)]
 pub struct PlacedStops {
     pub count: u32,
     pub stops: [PlacedStop; 16],

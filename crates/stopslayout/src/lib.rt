@@ -13,7 +13,7 @@ use stops::{PlacedStop, PlacedStops};
 pub const SIZE: usize = 132;
 
 // Placed stops beside the reply to their layout; none after a refusal.
-#[derive(Drop)]
+#[derive(Clone, Copy)]
 pub struct TakenStops {
     pub reply: u32,
     pub stops: PlacedStops,

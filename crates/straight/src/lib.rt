@@ -131,7 +131,7 @@ fn draw_new(ramp: &[u32], steps: Steps, v: SignedVector, z: Strip, buf: &mut [u8
 // ---- rows that are earlier rows moved sideways
 
 // Going down so many rows is as far along the line as going across so many columns.
-#[derive(Drop)]
+#[derive(Clone, Copy)]
 pub struct Shift {
     pub rows: usize,
     pub columns: usize,

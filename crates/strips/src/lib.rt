@@ -114,7 +114,7 @@ fn draw_ready(ramp: &[u32], shift: Shift, l: Line, z: Strip, buf: &mut [u8])
 // ---- with stops, and room for a table
 
 // The table that a strip is drawn with, and the shift that may copy its rows. A strip in sections has a table for each, of so many entries.
-#[derive(Drop)]
+#[derive(Clone, Copy)]
 struct Plan {
     base: u32,
     entries: usize,

@@ -325,7 +325,7 @@ pub fn fill_spaced(t: &mut [u32], positions: &[u32], values: &[u32], first: u32,
 // ---- stretches: colors from walks, with no table
 
 // `count` locations from `first` on that have the same stops around them, and the walks at the first.
-#[derive(Drop)]
+#[derive(Clone, Copy)]
 pub struct Stretch {
     pub first: u64,
     pub count: u64,

@@ -5,7 +5,7 @@ use libc::STDOUT_FILENO;
 
 // What was compared: pictures, how many of them in part, of gradients that repeat, and in one color, and their pixels; how many pictures differ; and
 // pictures that were refused.
-#[derive(Drop)]
+#[derive(Clone, Copy)]
 pub struct Tally {
     pub pictures: u64,
     pub parts: u64,

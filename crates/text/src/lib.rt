@@ -1,15 +1,17 @@
 // Reading a text of bytes at a cursor. Each contract speaks of the rest of the text, from the cursor on; no cursor is out of bounds.
+#![tactic(auto)]
+
 ghost use Rattle.std.specs.Prelude.{◌≡◌, drop, get_or};
 ghost use Rattle.text.specs.Text.{peek_of, rest_of, is_nil, past, is_space, gap_of, lower, keyword_of};
 ghost use Rattle.text.specs.View.{view_match};
 
-#[derive(Drop)]
+#[derive(Clone, Copy)]
 pub struct Cursor {
     pub at: usize,
 }
 
 // Past what was looked for, or not there.
-#[derive(Drop)]
+#[derive(Clone, Copy)]
 pub enum Match {
     Past(Cursor),
     Not,

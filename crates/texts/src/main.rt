@@ -12,7 +12,7 @@ use reader::Reading;
 use text::Cursor;
 
 // A byte of a text, and where the next one starts in its line.
-#[derive(Drop)]
+#[derive(Clone, Copy)]
 pub struct Byte {
     pub value: u8,
     pub next: usize,

@@ -10,7 +10,7 @@ use gradient::Color;
 use text::{Cursor, Match};
 
 // px, % or deg.
-#[derive(Drop)]
+#[derive(Clone, Copy)]
 pub enum Unit {
     Length,
     Percentage,
@@ -18,26 +18,26 @@ pub enum Unit {
 }
 
 // A number in thousandths of its unit, cut off at a million units either way.
-#[derive(Drop)]
+#[derive(Clone, Copy)]
 pub struct Number {
     pub value: i32,
     pub unit: Unit,
 }
 
-#[derive(Drop)]
+#[derive(Clone, Copy)]
 pub enum NumberRead {
     Got(Number, Cursor),
     Refused,
 }
 
-#[derive(Drop)]
+#[derive(Clone, Copy)]
 pub enum ColorRead {
     Got(Color, Cursor),
     Refused,
 }
 
 // The number that digits write, cut off at a million; how many they are; and what follows them.
-#[derive(Drop)]
+#[derive(Clone, Copy)]
 pub struct Digits {
     pub value: u32,
     pub count: usize,
@@ -45,7 +45,7 @@ pub struct Digits {
 }
 
 // The number that hex digits write, of more than eight the last eight; how many they are; and what follows them.
-#[derive(Drop)]
+#[derive(Clone, Copy)]
 pub struct HexRun {
     pub value: u32,
     pub count: usize,
@@ -53,13 +53,13 @@ pub struct HexRun {
 }
 
 // A number without sign and unit, in thousandths.
-#[derive(Drop)]
+#[derive(Clone, Copy)]
 pub enum AmountRead {
     Got(u32, Cursor),
     Refused,
 }
 
-#[derive(Drop)]
+#[derive(Clone, Copy)]
 pub enum UnitRead {
     Got(Unit, Cursor),
     Refused,

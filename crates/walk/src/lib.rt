@@ -29,7 +29,7 @@ const PACE_ONE: u64 = 1099511627776;
 // ---- one channel
 
 // A channel in fixed point: its byte is f rounded down, and each step adds `up` and takes `down` away.
-#[derive(Drop)]
+#[derive(Clone, Copy)]
 pub struct Walk {
     pub f: u64,
     pub up: u64,
@@ -110,7 +110,7 @@ pub fn byte(w: Walk) -> u8
 
 // ---- all four channels
 
-#[derive(Drop)]
+#[derive(Clone, Copy)]
 pub struct Channels {
     pub red: Walk,
     pub green: Walk,
@@ -315,7 +315,7 @@ fn slope(w: Walk) -> u64 {
 }
 
 // How many steps each channel takes from one byte to the next, in fixed point.
-#[derive(Drop)]
+#[derive(Clone, Copy)]
 pub struct Paces {
     pub red: u64,
     pub green: u64,
