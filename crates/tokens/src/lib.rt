@@ -1,4 +1,6 @@
 // Numbers and colors of the text, read at a cursor.
+#![tactic(auto)]
+
 ghost use Rattle.std.specs.Prelude.{◌≡◌, ◌+◌, ◌*◌, ◌-◌, ◌%◌, ◌≤◌, ◌<◌, min, true, [], ◌∷◌, drop};
 ghost use Rattle.text.specs.Text.{map_read};
 ghost use Rattle.tokens.specs.Number.{is_digit, after_sign, signed, fraction_of, magnitude_of, unit_of, number_of};
