@@ -3,17 +3,13 @@ use Prim.Native.Nat.{◌≤◌}
 use native.Mathlib.Nat.{mul-le-mul}
 use native.Mathlib.Omega.{arith}
 use borrow.Author.Rules.{rules}
-use Rattle.color.proofs.premultiply.Statement.{statement}
-use Rattle.color.proofs.premultiply.Tie as tie
+use Rattle.color.proofs.premultiply.Goals as goal
 
-mul-result : tie.Need-overflow-mul-result
-mul-result c =
+pub overflow_mul-result : goal.overflow_mul-result
+overflow_mul-result c =
     let h : c.args.c ≤ 255 = search rules in
     let k : c.args.a ≤ 255 = search rules in
     omega (arith, mul-le-mul h k)
 
-returns : tie.Need-returns
+pub returns : goal.returns
 returns c = search rules
-
-pub premultiply-spec : {M : Type 1} → statement M
-premultiply-spec = tie.close (tie.spec mul-result returns)
