@@ -1,4 +1,6 @@
 // Random numbers from seeds, and random gradients, boxes and rows of boxes made of them. A seed gives the same ones each time.
+#![tactic(auto)]
+
 ghost use Rattle.std.specs.Prelude.{◌<◌};
 
 use gradient::{
