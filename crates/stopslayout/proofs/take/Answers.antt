@@ -12,8 +12,7 @@ use Rattle.stops.specs.declared.PlacedStops.{PlacedStops}
 use Rattle.stopslayout.specs.declared.TakenStops.{TakenStops}
 use Rattle.stopslayout.specs.Words.{placed_layout_of}
 use Rattle.stopslayout.specs.Taken.{placed_at, taken_stops_reply, taken_stops_of}
-use Rattle.stopslayout.proofs.take.Statement.{statement}
-use Rattle.stopslayout.proofs.take.Tie as tie
+use Rattle.stopslayout.proofs.take.Goals as goal
 
 -- the answers to what a slice reads as: it is no layout, it is accepted, it is refused
 module _ (s : List ℕ) (p : PlacedStops) (e : p ≡ placed_at s) where
@@ -30,39 +29,26 @@ module _ (s : List ℕ) (p : PlacedStops) (e : p ≡ placed_at s) where
     unfolding taken_stops_of taken_stops_reply
     refused q z = rw (q, ← e, l, ← k, ne_eqb r 0 z)
 
-placed-at-requires : tie.Need-placed-at-requires
-placed-at-requires c κs = search rules
+pub placed_at-p-requires : goal.placed_at-p-requires
+placed_at-p-requires c = search rules
 
-is-layout-requires : tie.Need-is-layout-requires
-is-layout-requires c κs = search rules
+pub is_layout-requires : goal.is_layout-requires
+is_layout-requires c = search rules
 
-no-stops-requires : tie.Need-no-stops-requires
-no-stops-requires c κs = search rules
+pub no_stops-requires : goal.no_stops-requires
+no_stops-requires c = search rules
 
-returns : tie.Need-returns
-returns c = no-layout _ _ c.before.before.before.placed-at.ensures c.no-stops.ensures (sym c.before.before.is-layout.ensures ∙ not-true _ c.before.if1.true)
+pub returns-then-not-is_layout : goal.returns-then-not-is_layout
+returns-then-not-is_layout c = no-layout _ _ c.placed_at-p.ensures c.no_stops.ensures (sym c.is_layout.ensures ∙ not-true _ c.if-not-is_layout.true-raw)
 
-check-placed-requires : tie.Need-check-placed-requires
-check-placed-requires c κs = search rules
+pub check_placed-reply-requires : goal.check_placed-reply-requires
+check_placed-reply-requires c = search rules
 
-returns-2 : tie.Need-returns-2
-returns-2 c = accepted _ _ c.before.before.before.before.placed-at.ensures (sym c.before.before.before.is-layout.ensures ∙ not-false _ c.before.before.if1.false) c.before.check-placed.ensures c.if2.true
+pub returns-then-reply-eq-DONE : goal.returns-then-reply-eq-DONE
+returns-then-reply-eq-DONE c = accepted _ _ c.placed_at-p.ensures (sym c.is_layout.ensures ∙ not-false _ c.if-not-is_layout.false-raw) c.check_placed-reply.ensures c.if-reply-eq-DONE.true
 
-no-stops-requires-2 : tie.Need-no-stops-requires-2
-no-stops-requires-2 c κs = search rules
+pub no_stops-requires-2 : goal.no_stops-requires-2
+no_stops-requires-2 c = search rules
 
-returns-3 : tie.Need-returns-3
-returns-3 c = refused _ _ c.before.before.before.before.before.placed-at.ensures (sym c.before.before.before.before.is-layout.ensures ∙ not-false _ c.before.before.before.if1.false) c.before.before.check-placed.ensures c.no-stops2.ensures c.before.if2.false
-
-pub take_spec : {M : Type 1} → statement M
-take_spec =
-    tie.close
-    (tie.spec
-    placed-at-requires
-    is-layout-requires
-    no-stops-requires
-    returns
-    check-placed-requires
-    returns-2
-    no-stops-requires-2
-    returns-3)
+pub returns : goal.returns
+returns c = refused _ _ c.placed_at-p.ensures (sym c.is_layout.ensures ∙ not-false _ c.if-not-is_layout.false-raw) c.check_placed-reply.ensures c.no_stops-2.ensures c.if-reply-eq-DONE.false
