@@ -1,17 +1,18 @@
 // Writes the table of sines, as the compiled library gives it: a line with k, a space and the sine of k quarter degrees for each k.
+#![tactic(auto)]
+
 ghost use Rattle.std.specs.Prelude.{◌≤◌};
 
-fn main() {
+fn main(rt: HostRuntime) {
     for k in 0..361 {
-        line(k);
+        line(&rt, k);
     }
 }
 
-fn line(k: usize)
+// A line that cannot be written is left out.
+fn line(rt: &impl Print, k: usize)
     requires { k ≤ 360 }
 {
-    io::print_decimal(1, k as u64);
-    io::write_all(1, b" ");
-    io::print_decimal(1, sine::sine(k) as u64);
-    io::write_all(1, b"\n");
+    let s = sine::sine(k);
+    let _ = println!(rt; "{k} {s}");
 }

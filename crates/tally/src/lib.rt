@@ -1,7 +1,7 @@
 // The count of pictures that were compared, summed and printed, and what a buffer holds before.
-ghost use Rattle.std.specs.Prelude.{◌≡◌, length, replicate};
+#![tactic(auto)]
 
-use libc::STDOUT_FILENO;
+ghost use Rattle.std.specs.Prelude.{◌≡◌, length, replicate};
 
 // What was compared: pictures, how many of them in part, of gradients that repeat, and in one color, and their pixels; how many pictures differ; and
 // pictures that were refused.
@@ -65,63 +65,63 @@ pub fn sum(s: Tally, t: Tally) -> Tally {
     }
 }
 
-// ---- the report
+// ---- the report: what cannot be written is left out
 
-pub fn say(s: &[u8]) {
-    io::write_all(STDOUT_FILENO, s);
+pub fn say(rt: &impl Print, s: &[u8]) {
+    let _ = rt.write_all(s);
 }
 
-pub fn say_number(n: u64) {
-    io::print_decimal(STDOUT_FILENO, n);
+pub fn say_number(rt: &impl Print, n: u64) {
+    let _ = rt.print(n);
 }
 
-pub fn say_shape(kind: u32) {
+pub fn say_shape(rt: &impl Print, kind: u32) {
     match kind {
-        0 => say(b"to right, to left"),
-        1 => say(b"to bottom, to top"),
-        2 => say(b"to a corner"),
-        3 => say(b"45deg, 135deg, 225deg, 315deg"),
-        4 => say(b"any angle"),
-        5 => say(b"circle at 50% 50%"),
-        6 => say(b"circle on half pixels"),
-        7 => say(b"circle in the box"),
-        8 => say(b"circle at any place, to 8192px and 1000%"),
-        9 => say(b"circle of no radius, or less than a pixel"),
-        _ => say(b"each of these"),
+        0 => say(rt, b"to right, to left"),
+        1 => say(rt, b"to bottom, to top"),
+        2 => say(rt, b"to a corner"),
+        3 => say(rt, b"45deg, 135deg, 225deg, 315deg"),
+        4 => say(rt, b"any angle"),
+        5 => say(rt, b"circle at 50% 50%"),
+        6 => say(rt, b"circle on half pixels"),
+        7 => say(rt, b"circle in the box"),
+        8 => say(rt, b"circle at any place, to 8192px and 1000%"),
+        9 => say(rt, b"circle of no radius, or less than a pixel"),
+        _ => say(rt, b"each of these"),
     }
 }
 
-pub fn say_area(sort: u32) {
+pub fn say_area(rt: &impl Print, sort: u32) {
     match sort {
-        0 => say(b", boxes to 96x96"),
-        1 => say(b", squares"),
-        2 => say(b", boxes of 4:3"),
-        3 => say(b", boxes of 3:4"),
-        4 => say(b", multiples of 4 by multiples of 8"),
-        5 => say(b", one row"),
-        6 => say(b", one column"),
-        7 => say(b", 300x40"),
-        8 => say(b", 40x300"),
-        9 => say(b", 2048x8"),
-        10 => say(b", 2048x24"),
-        11 => say(b", 8x2048"),
-        12 => say(b", rows of 640x480"),
-        _ => say(b", rows of 2048x2048"),
+        0 => say(rt, b", boxes to 96x96"),
+        1 => say(rt, b", squares"),
+        2 => say(rt, b", boxes of 4:3"),
+        3 => say(rt, b", boxes of 3:4"),
+        4 => say(rt, b", multiples of 4 by multiples of 8"),
+        5 => say(rt, b", one row"),
+        6 => say(rt, b", one column"),
+        7 => say(rt, b", 300x40"),
+        8 => say(rt, b", 40x300"),
+        9 => say(rt, b", 2048x8"),
+        10 => say(rt, b", 2048x24"),
+        11 => say(rt, b", 8x2048"),
+        12 => say(rt, b", rows of 640x480"),
+        _ => say(rt, b", rows of 2048x2048"),
     }
 }
 
-pub fn say_tally(t: Tally) {
-    say(b": ");
-    say_number(t.pictures);
-    say(b" pictures, ");
-    say_number(t.parts);
-    say(b" in part, ");
-    say_number(t.repeated);
-    say(b" that repeat, ");
-    say_number(t.even);
-    say(b" in one color; ");
-    say_number(t.pixels);
-    say(b" pixels; ");
-    say_number(t.different);
-    say(b" differ\n");
+pub fn say_tally(rt: &impl Print, t: Tally) {
+    say(rt, b": ");
+    say_number(rt, t.pictures);
+    say(rt, b" pictures, ");
+    say_number(rt, t.parts);
+    say(rt, b" in part, ");
+    say_number(rt, t.repeated);
+    say(rt, b" that repeat, ");
+    say_number(rt, t.even);
+    say(rt, b" in one color; ");
+    say_number(rt, t.pixels);
+    say(rt, b" pixels; ");
+    say_number(rt, t.different);
+    say(rt, b" differ\n");
 }

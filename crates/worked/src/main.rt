@@ -1,45 +1,46 @@
 // Prints the figures of the grid that documents 01 and 02 work through, as the compiled code finds them.
+#![tactic(auto)]
+
 ghost use Rattle.std.specs.Prelude.{◌≡◌, true, ◌≤◌, ◌<◌, nat_abs};
 ghost use Rattle.gradient.specs.Range.{shape_in};
 ghost use Rattle.line.specs.Box.{Box};
 ghost use Rattle.numbers.specs.Units.{most_whole};
 
 use gradient::{Coordinate, Direction, Extent, Horizontal, Shape, Size, Vertical};
-use libc::STDOUT_FILENO;
 
-fn say(label: &[u8], n: u64) {
-    io::write_all(STDOUT_FILENO, label);
-    io::print_decimal(STDOUT_FILENO, n);
-    io::write_all(STDOUT_FILENO, b"\n");
+// What cannot be written is left out.
+fn say(rt: &impl Print, label: &[u8], n: u64) {
+    let _ = rt.write_all(label);
+    let _ = println!(rt; "{n}");
 }
 
 // A biased number.
-fn say_biased(label: &[u8], u: u32) {
-    io::write_all(STDOUT_FILENO, label);
+fn say_biased(rt: &impl Print, label: &[u8], u: u32) {
+    let _ = rt.write_all(label);
     if u < numbers::BIAS {
-        io::write_all(STDOUT_FILENO, b"-");
+        let _ = rt.write_all(b"-");
     }
-    io::print_decimal(STDOUT_FILENO, numbers::apart(u as u64, numbers::WIDE_BIAS));
-    io::write_all(STDOUT_FILENO, b"\n");
+    let n = numbers::apart(u as u64, numbers::WIDE_BIAS);
+    let _ = println!(rt; "{n}");
 }
 
-fn say_percentage(label: &[u8], p: i32, whole: u32)
+fn say_percentage(rt: &impl Print, label: &[u8], p: i32, whole: u32)
     requires { (nat_abs p ≤ 1000000) × (whole ≤ most_whole) }
 {
-    say_biased(label, numbers::percentage_units(p, whole));
+    say_biased(rt, label, numbers::percentage_units(p, whole));
 }
 
-fn say_length(label: &[u8], s: Shape, w: usize, h: usize)
+fn say_length(rt: &impl Print, label: &[u8], s: Shape, w: usize, h: usize)
     requires { Box w h × (shape_in s ≡ true) }
 {
-    say(label, line::line_length(s, w, h) as u64);
+    say(rt, label, line::line_length(s, w, h) as u64);
 }
 
-fn say_location(label: &[u8], s: Shape, w: usize, h: usize, i: usize, j: usize)
+fn say_location(rt: &impl Print, label: &[u8], s: Shape, w: usize, h: usize, i: usize, j: usize)
     requires { Box w h × (shape_in s ≡ true) × (i < w) × (j < h) }
 {
     let l = line::line_of(s, w, h);
-    say(label, line::location(l, w, h, i, j, 0));
+    say(rt, label, line::location(l, w, h, i, j, 0));
 }
 
 fn corner() -> Shape
@@ -74,19 +75,42 @@ fn farthest() -> Shape
     )
 }
 
-fn main() {
-    say_biased(b"0.01px: ", numbers::length_units(10));
-    say_biased(b"-0.01px: ", numbers::length_units(-10));
-    say_percentage(b"33.333% of 12800: ", 33333, 12800);
-    say_percentage(b"-0.01% of 12800: ", -10, 12800);
-    say_percentage(b"50% of 1: ", 50000, 1);
-    say_percentage(b"-50% of 1: ", -50000, 1);
-    say_length(b"to top right in 3x4: ", corner(), 3, 4);
-    say_location(b"to top right in 3x4, pixel 0,3: ", corner(), 3, 4, 0, 3);
-    say_location(b"to top right in 3x4, pixel 2,0: ", corner(), 3, 4, 2, 0);
-    say_length(b"closest-corner from 3px 4px in 20x20: ", closest(), 20, 20);
-    say_length(b"45deg in 2048x2048: ", slanted(), 2048, 2048);
+fn main(rt: HostRuntime) {
+    say_biased(&rt, b"0.01px: ", numbers::length_units(10));
+    say_biased(&rt, b"-0.01px: ", numbers::length_units(-10));
+    say_percentage(&rt, b"33.333% of 12800: ", 33333, 12800);
+    say_percentage(&rt, b"-0.01% of 12800: ", -10, 12800);
+    say_percentage(&rt, b"50% of 1: ", 50000, 1);
+    say_percentage(&rt, b"-50% of 1: ", -50000, 1);
+    say_length(&rt, b"to top right in 3x4: ", corner(), 3, 4);
     say_location(
+        &rt,
+        b"to top right in 3x4, pixel 0,3: ",
+        corner(),
+        3,
+        4,
+        0,
+        3,
+    );
+    say_location(
+        &rt,
+        b"to top right in 3x4, pixel 2,0: ",
+        corner(),
+        3,
+        4,
+        2,
+        0,
+    );
+    say_length(
+        &rt,
+        b"closest-corner from 3px 4px in 20x20: ",
+        closest(),
+        20,
+        20,
+    );
+    say_length(&rt, b"45deg in 2048x2048: ", slanted(), 2048, 2048);
+    say_location(
+        &rt,
         b"45deg in 2048x2048, pixel 2047,0: ",
         slanted(),
         2048,
@@ -95,6 +119,7 @@ fn main() {
         0,
     );
     say_length(
+        &rt,
         b"farthest-corner from -1000% -1000% in 2048x2048: ",
         farthest(),
         2048,
