@@ -9,8 +9,7 @@ use Rattle.placing.specs.declared.Placing.{Placing}
 use Rattle.placing.specs.Placed.{placed_in, listed}
 use Rattle.placing.specs.Reply.{place_reply, place_of}
 use Rattle.placing.proofs.Replies.{place-accepted}
-use Rattle.placing.proofs.place.Statement.{statement}
-use Rattle.placing.proofs.place.Tie as tie
+use Rattle.placing.proofs.place.Goals as goal
 
 module _ (g : Gradient) (w h : ℕ) (p : PlacedStops) where
   refused : (r : ℕ) → r ≡ place_reply g w h → (r ≡ 0 → ⊥) → p ≡ no_stops → ◌≡◌ {A = Placing} (record { reply = r; stops = p }) (place_of g w h)
@@ -22,22 +21,17 @@ module _ (g : Gradient) (w h : ℕ) (p : PlacedStops) where
   unfolding place_of
   given_out r e z q = rw (← e, z, q)
 
-place-reply-requires : tie.Need-place-reply-requires
-place-reply-requires c κs = search rules
+pub place_reply-reply-requires : goal.place_reply-reply-requires
+place_reply-reply-requires c = search rules
 
-no-stops-requires : tie.Need-no-stops-requires
-no-stops-requires c κs = search rules
+pub no_stops-requires : goal.no_stops-requires
+no_stops-requires c = search rules
 
-returns : tie.Need-returns
-returns c = refused _ _ _ _ _ c.before.before.place-reply.ensures c.before.if1.true c.no-stops.ensures
+pub returns-then-reply-ne-DONE : goal.returns-then-reply-ne-DONE
+returns-then-reply-ne-DONE c = refused _ _ _ _ _ c.place_reply-reply.ensures c.if-reply-ne-DONE.true c.no_stops.ensures
 
-place-in-box-requires : tie.Need-place-in-box-requires
-place-in-box-requires c κs = place-accepted _ _ _ (sym c.before.place-reply.ensures ∙ c.if1.false)
+pub place_in_box-requires : goal.place_in_box-requires
+place_in_box-requires c = place-accepted _ _ _ (sym c.place_reply-reply.ensures ∙ c.if-reply-ne-DONE.false)
 
-returns-2 : tie.Need-returns-2
-returns-2 c = given_out _ _ _ _ _ c.before.before.place-reply.ensures c.before.if1.false c.place-in-box.ensures
-
-pub place-spec : {M : Type 1} → statement M
-place-spec =
-    tie.close
-    (tie.spec place-reply-requires no-stops-requires returns place-in-box-requires returns-2)
+pub returns : goal.returns
+returns c = given_out _ _ _ _ _ c.place_reply-reply.ensures c.if-reply-ne-DONE.false c.place_in_box.ensures
