@@ -22,16 +22,17 @@ help:
 	@echo 'make dist       an archive for machines without rt, to target/dist/'
 	@echo 'make clean      removes target/, what was proved too'
 
-# What is built is looked at each time, and built again only where a file is newer. Of what rt says, its own lines are shown, one to a crate.
+# What is built is looked at each time, and built again only where a file is newer. Of what rt says, its own lines and the verdict are shown.
 $(archive): always
-	@if test -f $@ && test -z "$$(find crates crates.txt -newer $@)"; then exit 0; fi; \
+	@if test -f $@ && test -z "$$(find crates crates.txt -path '*/out' -prune -o -newer $@ -print)"; then exit 0; fi; \
 	command -v $(RT) >/dev/null || { \
 	    echo 'make: no $(RT). It proves and compiles the library, and comes with the Rattle kit: put the folder that holds it into PATH.' >&2; \
 	    echo 'make: Without it, use an archive made by `make dist` elsewhere; README.md says more.' >&2; exit 1; }; \
-	echo '$(RT) staticlib avarezhu'; mkdir -p target; \
-	{ status=0; $(RT) staticlib avarezhu 2>&1 || status=$$?; echo $$status >target/make.status; } | \
-	    tee target/make.log | awk '/^rt: / { print; fflush() }'; \
+	echo '$(RT) lib avarezhu'; mkdir -p target/staticlib; \
+	{ status=0; (cd crates/avarezhu && $(RT) lib) 2>&1 || status=$$?; echo $$status >target/make.status; } | \
+	    tee target/make.log | awk '/^rt: |^logic=/ { print; fflush() }'; \
 	test "$$(cat target/make.status)" -eq 0 || { tail -n 40 target/make.log; echo 'make: target/make.log has all of it' >&2; exit 1; }; \
+	cp crates/avarezhu/out/libavarezhu.a $@; \
 	touch $@
 
 $(program): $(archive) always
@@ -75,7 +76,7 @@ dist: $(program)
 	gzip -9n "$$to.tar"; rm -rf "$$to"; echo "$$to.tar.gz"
 
 clean:
-	rm -rf target
+	rm -rf target crates/*/out
 
 always:
 

@@ -1,6 +1,6 @@
 -- Roots from those of the rows above: among four numbers far from the center, among 16 nearer to it, and among 65 anywhere.
 -- Assumes nothing.
-use Rattle.std.proofs.Common.{◌≡◌, ℕ, ◌+◌, ◌-◌, ◌*◌, ◌/◌, ◌%◌, ◌<◌, ◌≤◌, ap, mul-le-mul, arith}
+use Rattle.std.proofs.Common.{◌≡◌, ℕ, ◌+◌, ◌-◌, ◌*◌, ◌/◌, ◌<◌, ◌≤◌, ap, mul-le-mul, arith}
 use native.Mathlib.Decide.{dec_le}
 use Rattle.numbers.specs.Biased.{bias, unbiased}
 use Rattle.numbers.specs.Fraction.{distance}

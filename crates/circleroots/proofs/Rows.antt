@@ -1,13 +1,12 @@
 -- The locations of a part of a row, from those of the rows above.
 -- Assumes nothing.
-use Rattle.std.proofs.Common.{◌≡◌, ℕ, ◌+◌, ◌-◌, ◌*◌, ◌%◌, ◌<◌, ◌≤◌, List, length, get_or, mul-le-mul, arith}
+use Rattle.std.proofs.Common.{◌≡◌, ℕ, ◌+◌, ◌-◌, ◌*◌, ◌%◌, ◌<◌, ◌≤◌, List, get_or, mul-le-mul, arith}
 use native.Mathlib.Decide.{dec_le}
 use Rattle.numbers.specs.Biased.{bias, unbiased}
 use Rattle.root.specs.Root.{IsRoot, root_of}
 use Rattle.root.proofs.Laws.{root-le, root_is}
 use Rattle.line.specs.Location.{location_by}
-use Rattle.line.specs.Circle.{from, circle_rule}
-use Rattle.line.specs.Represented.{center_in}
+use Rattle.line.specs.Circle.{from}
 use Rattle.line.specs.declared.BiasedCenter.{BiasedCenter}
 use Rattle.lowroots.specs.Found.{root_limit, short_limit, Finds}
 use Rattle.circleroots.specs.Squares.{far_square, near_square, square_of, Known, InTable, KnownPart, Kept, FromOneRow, FromTwoRows, Beyond, Short, Guessable}

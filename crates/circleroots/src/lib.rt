@@ -1,5 +1,7 @@
 // The locations of a circle's pixels, row by row. Each row's locations come from the two rows above: far from the center a location is one of four
 // numbers, nearer to it one of 16 or 65. Where those rows are not known, each root is searched for.
+#![tactic(auto)]
+
 ghost use Rattle.std.specs.Prelude.{◌≡◌, ℕ, ◌+◌, ◌-◌, ◌*◌, ◌<◌, ◌≤◌, true, length};
 ghost use Rattle.numbers.specs.Biased.{bias, twice_bias};
 ghost use Rattle.root.specs.Root.{root_of};

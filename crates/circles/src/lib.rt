@@ -1,4 +1,6 @@
 // The circle of a radial gradient, read at a cursor.
+#![tactic(auto)]
+
 ghost use Rattle.std.specs.Prelude.{◌≡◌, drop};
 ghost use Rattle.text.specs.Text.{after_gap};
 ghost use Rattle.tokens.specs.Cut.{cut};

@@ -1,16 +1,15 @@
 -- The average color of stops: its bytes lie between those of the stops, and are near it.
 -- Assumes nothing.
-use mathlib.Core.Path.{◌≡◌, refl, sym, ap, ap₂, ◌∙◌}
+use mathlib.Core.Path.{◌≡◌, refl, sym, ap, ap₂}
 use mathlib.Core.List.{List, [], ◌∷◌}
-use Prim.Native.Nat.{ℕ, suc, ◌+◌, ◌-◌, ◌*◌, ◌/◌, ◌≤◌, ◌<◌}
+use Prim.Native.Nat.{ℕ, suc, ◌+◌, ◌-◌, ◌*◌, ◌≤◌, ◌<◌}
 use lib.ListN.{length, get_or}
 use native.Mathlib.Numerals.{add-one}
 use native.Mathlib.Nat.{mul-le-mul_left, mul-le-mul_right, le_refl, le-div_iff_mul-le, div-lt_iff_lt-mul}
 use native.Mathlib.Omega.{arith}
-use Rattle.numbers.specs.Fraction.{Fraction, ◌⁄◌, nearest}
+use Rattle.numbers.specs.Fraction.{◌⁄◌, nearest}
 use Rattle.numbers.proofs.Nearest.{nearest-half, nearest-mono}
 use Rattle.color.specs.Stop.{Channel, red, green, blue, alpha, Stop, no_stop}
-use Rattle.color.specs.Byte.{stop_byte}
 use Rattle.color.specs.Lent.{values_at, stops_from, stops_of, pairs_sum}
 use Rattle.color.specs.Average.{equally_apart, total_length, entries_sum, average_of, least_of, greatest_of, OneColor}
 

@@ -1,8 +1,8 @@
 -- Locations that are moved by whole periods: a whole location and a fraction just above it, which move together.
 -- Assumes nothing.
-use mathlib.Core.Path.{◌≡◌, refl, sym, ap, ◌∙◌, subst}
+use mathlib.Core.Path.{◌≡◌, sym, ap, ◌∙◌, subst}
 use mathlib.Core.Bool.{true, false, cond}
-use Prim.Native.Nat.{ℕ, zero, suc, ◌+◌, ◌-◌, ◌*◌, ◌/◌, ◌%◌, ◌≤◌, ◌<◌}
+use Prim.Native.Nat.{ℕ, suc, ◌+◌, ◌-◌, ◌*◌, ◌/◌, ◌%◌, ◌≤◌, ◌<◌}
 use native.Mathlib.Nat.{mod-lt, div-add-mod', mul-le-mul_right, le-mul_of_pos_right}
 use native.Mathlib.Decide.{dec_le}
 use native.Mathlib.Omega.{arith}
@@ -17,7 +17,7 @@ use Rattle.color.specs.Byte.{units}
 use Rattle.color.specs.Accuracy.{Within}
 use Rattle.color.specs.Paint.{moved_to}
 use Rattle.color.specs.Lent.{moved_biased}
-use Rattle.color.proofs.Gap.{from, below, at, within-biased, biased-units}
+use Rattle.color.proofs.Gap.{from, below, within-biased, biased-units}
 
 -- ---- biased locations
 -- m is u, moved by whole periods of p until it lies from f up to but not including f + p

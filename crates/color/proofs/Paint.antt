@@ -1,9 +1,9 @@
 -- Demand 3 of what a picture is colored by.
 -- Assumes nothing.
-use mathlib.Core.Path.{◌≡◌, refl, sym, ap, subst, ◌∙◌}
+use mathlib.Core.Path.{◌≡◌, refl, ap, subst, ◌∙◌}
 use mathlib.Core.Bool.{Bool, true, false}
 use mathlib.Core.List.{List, [], ◌∷◌, map}
-use Prim.Native.Nat.{ℕ, zero, suc, ◌+◌, ◌-◌, ◌<◌}
+use Prim.Native.Nat.{ℕ, zero, suc, ◌-◌, ◌<◌}
 use native.Mathlib.Nat.{le_of_suc-le-suc}
 use native.Mathlib.Omega.{arith}
 use lib.IntN.{ℤ}
@@ -19,7 +19,7 @@ use Rattle.color.specs.Stop.{Stop, no_stop, Location, stop_of}
 use Rattle.color.specs.Byte.{byte_of}
 use Rattle.color.specs.Accuracy.{Within}
 use Rattle.color.specs.Average.{equally_apart, total_length, average_of, OneColor}
-use Rattle.color.specs.Paint.{Paint, first_of, last_of, period_of, repeated_by, paint_of, moved, moved_location, paint_at, RepeatedAccurate, PaintAccurate}
+use Rattle.color.specs.Paint.{first_of, last_of, period_of, repeated_by, paint_of, moved, moved_location, paint_at, RepeatedAccurate, PaintAccurate}
 use Rattle.color.proofs.Accuracy.{all_sound, byte-each, accurate}
 use Rattle.color.proofs.Moves.{together, last-is}
 use Rattle.color.proofs.Average.{one-color}

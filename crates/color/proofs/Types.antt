@@ -1,6 +1,6 @@
 -- What a function is told of stops that it is passed, `c.good`: their colors are made of bytes.
 -- Assumes nothing.
-use mathlib.Core.List.{List, [], ◌∷◌, map}
+use mathlib.Core.List.{List, [], ◌∷◌}
 use Prim.Native.Nat.{ℕ, zero, suc}
 use native.Mathlib.Omega.{arith}
 use mir.Val.{Val}
@@ -25,7 +25,7 @@ stop-bytes : (s : PlacedStop) (vs : List Val) → Told PlacedStopType.the_field 
 stop-bytes s vs h = record { red = omega arith; green = omega arith; blue = omega arith; alpha = omega arith }
 
 -- of the first n elements of an array
-first-bytes : (xs : List PlacedStop) (us : List Val) → shadow (each (PlacedStopType.the_field).row.Denot (PlacedStopType.the_field).row.own_val (map (PlacedStopType.the_field).into xs) us)
+first-bytes : (xs : List PlacedStop) (us : List Val) → shadow (each (PlacedStopType.the_row).Denot (PlacedStopType.the_row).own_val xs us)
     → (n : ℕ) → AllBytes (take n xs)
 first-bytes xs us h zero i = blank-bytes
 first-bytes [] us h (suc n) i = blank-bytes

@@ -1,5 +1,7 @@
 // The color of a location on the gradient line, from placed stops that are lent as two slices of numbers, and how these slices are made.
 // Positions and locations are biased. A stop has four values, its premultiplied channels.
+#![tactic(auto)]
+
 ghost use Rattle.std.specs.Prelude.{◌≡◌, List, [], ℕ, ◌+◌, ◌-◌, ◌*◌, ◌≤◌, ◌<◌, ◌/◌, ◌^◌, length, get_or};
 ghost use Rattle.numbers.specs.Biased.{unbiased};
 ghost use Rattle.numbers.specs.Fraction.{◌⁄◌, nearest};

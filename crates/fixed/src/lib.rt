@@ -1,5 +1,7 @@
 // The locations of pixels along a straight line, by places: approximate locations in fixed point, with 25 binary digits after the point. The whole part
 // of a place is the location, unless the next whole number is so near that the error may reach it; there the exact rule decides.
+#![tactic(auto)]
+
 ghost use Rattle.std.specs.Prelude.{◌≡◌, ℕ, ◌+◌, ◌*◌, ◌<◌, ◌≤◌, true};
 ghost use Rattle.line.specs.Box.{Box};
 ghost use Rattle.line.specs.Location.{location_by};

@@ -1,12 +1,11 @@
 -- The answer to a text is the one that the grammar asks for. Assumes nothing.
 use mathlib.Core.Path.{◌≡◌, refl, sym, ap, ◌∙◌}
 use mathlib.Core.Bool.{Bool, true, false, not, ◌&&◌, true≢false}
-use mathlib.Core.List.{List, ◌++◌}
+use mathlib.Core.List.{List}
 use mathlib.Core.Logic.{◌↔◌}
-use Prim.Native.Nat.{ℕ, ◌-◌, ◌≤◌, ◌<◌}
-use native.Mathlib.Omega.{arith}
+use Prim.Native.Nat.{ℕ, ◌≤◌, ◌<◌}
 use lib.Dec.{ltb}
-use lib.ListN.{length, replicate}
+use lib.ListN.{length}
 use lib.Seq.{take_all}
 use borrow.Author.Tests.{ltb-true, ltb-false, lt-ltb, le-ltb}
 use Rattle.replies.specs.Replies.{done, long_text, malformed, out_of_range, too_many_stops, given, ◌or_else◌}
@@ -14,15 +13,13 @@ use Rattle.text.specs.Text.{Read, got, refused}
 use Rattle.tokens.specs.Number.{exact}
 use Rattle.gradient.specs.Lists.{all}
 use Rattle.gradient.specs.Range.{shape_in, stop_in}
-use Rattle.gradient.specs.Blank.{blank_stop}
-use Rattle.gradient.specs.declared.Stop.{Stop}
 use Rattle.reader.specs.declared.Reading.{Reading}
 use Rattle.reader.specs.Written.{Written}
 use Rattle.reader.specs.Text.{gradient_of}
 use Rattle.reader.specs.Reading as R
 use Rattle.reader.specs.Reading.{grammar_reply, gradient_in, answered, read_reply, read_of}
 use Rattle.grammar.specs.Text.{InGrammar}
-use Rattle.grammar.specs.Answers.{InRange, value_of, refusal, Answers, too_long, not-in-grammar, not_in_range, too_many, accepted}
+use Rattle.grammar.specs.Answers.{InRange, value_of, Answers, too_long, not-in-grammar, not_in_range, too_many, accepted}
 use Rattle.grammar.proofs.Text.{sound, complete, one-gradient, refused-not, not-refused}
 
 -- ---- reading answers so

@@ -17,7 +17,7 @@ use Rattle.gradient.specs.declared.Shape.TheVariants as Sh
 use Rattle.tokens.specs.declared.Unit.{Unit as Measure}
 use Rattle.tokens.specs.declared.Unit.TheVariants as U
 use Rattle.tokens.specs.declared.Number.{Number}
-use Rattle.tokens.specs.Number.{number, exact}
+use Rattle.tokens.specs.Number.{exact}
 use Rattle.tokens.specs.Color.{begins}
 use Rattle.circles.specs.declared.Place.{Place}
 use Rattle.circles.specs.Position.{middle, place, position_of}

@@ -1,26 +1,25 @@
 -- The definition of reading colors is the grammar's. Assumes nothing.
-use mathlib.Core.Path.{◌≡◌, refl, sym, ap, ◌∙◌}
+use mathlib.Core.Path.{◌≡◌, refl, sym, ap}
 use mathlib.Core.List.{List, [], ◌∷◌, ◌++◌}
 use mathlib.Core.Bool.{Bool, true, false, cond, ◌||◌, ◌&&◌, false≢true}
-use mathlib.Core.Logic.{◌⊎◌, inl, inr}
+use mathlib.Core.Logic.{inl, inr}
 use Prim.Native.Nat.{ℕ, ◌+◌, ◌*◌, ◌-◌, ◌≤◌, ◌<◌}
 use Prim.Native.Char.{code}
 use Prim.Native.String.{String}
 use native.Mathlib.Omega.{arith}
-use lib.Dec.{eqb}
 use lib.ListN.{length}
 use borrow.Author.Tests.{ne_eqb, eqb-true}
-use Rattle.text.specs.Text.{bytes, is, in_range, peek_of, rest_of, past, run, lower, keyword_of, Read, got, refused, ◌>>=◌, ◌or_read◌}
-use Rattle.text.proofs.Laws.{bind-got, run_past, in-range, below-range, above-range, range-bounds}
+use Rattle.text.specs.Text.{bytes, is, in_range, peek_of, rest_of, past, run, lower, keyword_of, got, refused}
+use Rattle.text.proofs.Laws.{bind-got, run_past, in-range, above-range, range-bounds}
 use Rattle.gradient.specs.declared.Color.{Color}
 use Rattle.tokens.specs.Number.{number_of, exact}
 use Rattle.tokens.specs.Color.{begins, color, is_hex, hex_value, hex_color, hex_of, Row, color_names, row_at, row_of, named_of, color_of}
 use Rattle.tokens.proofs.Hex.{hex-end, hex-below}
 use Rattle.tokens.proofs.NameTable.{both, name-found}
 use Rattle.stoplist.specs.View.{not_comma}
-use Rattle.grammar.specs.Words.{Every, none, more, Letter, same, capital, Word, OneOf, one}
-use Rattle.grammar.specs.Colors.{rgba, rgb, pair, Name, Hex, ColorText}
-use Rattle.grammar.proofs.Laws.{Is, Reads, some, nothing, behind, reads-or, reads_as, reads-for, run-every, past-every, every-run, small, word-reads, unlike, word_first, word-high, whole, high, plain, apart, not-comma, word-plain}
+use Rattle.grammar.specs.Words.{Every, none, more, Letter, same, capital, Word, one}
+use Rattle.grammar.specs.Colors.{rgba, pair, Name, Hex, ColorText}
+use Rattle.grammar.proofs.Laws.{Is, Reads, some, nothing, behind, reads-or, reads-for, run-every, past-every, every-run, small, word-reads, unlike, word_first, word-high, whole, high, plain, apart, not-comma, word-plain}
 use Rattle.grammar.proofs.Numbers.{number-none}
 
 -- ---- hex digits

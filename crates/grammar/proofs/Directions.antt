@@ -1,10 +1,10 @@
 -- The definition of reading directions is the grammar's. Assumes nothing.
 use mathlib.Core.Path.{◌≡◌, refl}
-use mathlib.Core.List.{List, [], ◌∷◌, ◌++◌, append_assoc, append-nil}
-use Prim.Native.Nat.{ℕ, ◌≤◌, ◌<◌}
+use mathlib.Core.List.{List, [], ◌++◌, append_assoc, append-nil}
+use Prim.Native.Nat.{ℕ, ◌<◌}
 use native.Mathlib.Omega.{arith}
 use lib.IntN.{ℤ}
-use Rattle.text.specs.Text.{bytes, lower, peek_of, keyword_of, Read, got, refused, ◌>>=◌, ◌or_read◌, after_gap}
+use Rattle.text.specs.Text.{lower, peek_of, keyword_of, Read, got, refused, ◌>>=◌, ◌or_read◌}
 use Rattle.text.proofs.Laws.{bind-got, bind-refused, or-first, or-second}
 use Rattle.gradient.specs.declared.Side.{Side}
 use Rattle.gradient.specs.declared.Vertical.{Vertical}
@@ -16,7 +16,7 @@ use Rattle.gradient.specs.declared.Direction.TheVariants as D
 use Rattle.tokens.specs.declared.Unit.{Unit}
 use Rattle.tokens.specs.declared.Unit.TheVariants as U
 use Rattle.tokens.specs.declared.Number.{Number}
-use Rattle.tokens.specs.Number.{number, exact}
+use Rattle.tokens.specs.Number.{exact}
 use Rattle.tokens.specs.Color.{begins}
 use Rattle.directions.specs.Direction.{side_across, side_down, horizontal_of, vertical_of, horizontal_first, vertical_first, to_of, as_angle, angle_of, direction_of}
 use Rattle.stoplist.specs.View.{not_comma}

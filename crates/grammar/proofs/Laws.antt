@@ -3,14 +3,14 @@ use mathlib.Core.Path.{◌≡◌, refl, sym, ap, ◌∙◌}
 use mathlib.Core.List.{List, [], ◌∷◌, ◌++◌, map, append_assoc, append-nil}
 use mathlib.Core.Bool.{Bool, true, false, cond, not, ◌&&◌, ◌||◌, true≢false, false≢true}
 use mathlib.Core.Logic.{◌⊎◌, inl, inr, ⊎_elim}
-use Prim.Native.Nat.{ℕ, suc, ◌+◌, ◌-◌, ◌≤◌, ◌<◌}
+use Prim.Native.Nat.{ℕ, ◌+◌, ◌-◌, ◌≤◌, ◌<◌}
 use Prim.Native.Char.{code}
 use Prim.Native.String.{String, [] as empty, ◌∷◌ as ◌then◌}
 use native.Mathlib.Omega.{arith}
-use lib.Dec.{leb, ltb, eqb}
-use borrow.Author.Tests.{eq-eqb, ne_eqb, lt-leb, leb-true, leb-false, eqb-true, ltb-true, not-true}
+use lib.Dec.{ltb, eqb}
+use borrow.Author.Tests.{eq-eqb, ne_eqb, lt-leb, eqb-true, ltb-true, not-true}
 use Rattle.text.specs.Text.{bytes, is, in_range, is_nil, peek_of, rest_of, past, run, is_space, gap_of, lower, keyword_of, word_for, Read, got, refused, ◌>>=◌, ◌or_read◌, after_gap, whole_of}
-use Rattle.text.proofs.Laws.{got-refused, keyword-letter, past_stop, run-stop, run_past, space-end, range-bounds, in-range}
+use Rattle.text.proofs.Laws.{keyword-letter, past_stop, run-stop, run_past, space-end, range-bounds, in-range}
 use Rattle.gradient.specs.Lists.{all}
 use Rattle.tokens.specs.Color.{begins}
 use Rattle.tokens.proofs.NameTable.{both, two-words}

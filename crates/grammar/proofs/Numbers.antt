@@ -1,18 +1,18 @@
 -- The definition of reading numbers is the grammar's: what it gets is a number of the grammar, and it gets every one before white space or the end.
 -- Assumes nothing.
-use mathlib.Core.Path.{◌≡◌, refl, sym, ap, ◌∙◌}
+use mathlib.Core.Path.{◌≡◌, refl, ap, ◌∙◌}
 use mathlib.Core.List.{List, [], ◌∷◌, ◌++◌, append_assoc, append-nil}
 use mathlib.Core.Bool.{Bool, true, false, cond, ◌&&◌}
 use mathlib.Core.Logic.{◌⊎◌, inl, inr, ⊎_elim}
-use Prim.Native.Nat.{ℕ, suc, ◌+◌, ◌*◌, ◌-◌, ◌^◌, ◌≤◌, ◌<◌}
+use Prim.Native.Nat.{ℕ, ◌+◌, ◌*◌, ◌-◌, ◌^◌, ◌≤◌, ◌<◌}
 use Prim.Native.Char.{code}
 use native.Mathlib.Nat.{pow-succ', one-le-pow, mul-le-mul}
 use native.Mathlib.Omega.{arith}
 use lib.Dec.{leb, eqb}
-use lib.IntN.{ℤ, pos, neg_ℤ}
+use lib.IntN.{ℤ}
 use lib.ListN.{length as count}
-use borrow.Author.Tests.{eq-eqb, ne_eqb, le-leb, leb-true, eqb-true}
-use Rattle.text.specs.Text.{bytes, is, is_nil, peek_of, rest_of, past, run, Read, got, refused, ◌>>=◌, ◌or_read◌}
+use borrow.Author.Tests.{ne_eqb, le-leb, leb-true, eqb-true}
+use Rattle.text.specs.Text.{is, is_nil, peek_of, rest_of, past, run, got, refused, ◌>>=◌}
 use Rattle.text.proofs.Laws.{bind-got, bind-refused, or-first, or-second, past_stop, run-stop, run_past, in-range, below-range, above-range, keyword-letter}
 use Rattle.tokens.specs.declared.Unit.{Unit}
 use Rattle.tokens.specs.declared.Unit.TheVariants.{Length, Percentage, Angle}

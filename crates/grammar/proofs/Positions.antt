@@ -1,11 +1,10 @@
 -- The definition of reading the position of a circle's center is the grammar's. Assumes nothing.
-use mathlib.Core.Path.{◌≡◌, refl, sym, ap, ◌∙◌}
-use mathlib.Core.Bool.{true, ◌&&◌}
-use mathlib.Core.List.{List, [], ◌∷◌, ◌++◌, append_assoc, append-nil}
+use mathlib.Core.Path.{◌≡◌, refl}
+use mathlib.Core.List.{List, [], ◌++◌, append_assoc, append-nil}
 use Prim.Native.Nat.{ℕ, ◌≤◌, ◌<◌}
 use native.Mathlib.Omega.{arith}
 use lib.IntN.{ℤ}
-use Rattle.text.specs.Text.{bytes, lower, peek_of, keyword_of, Read, got, refused, ◌>>=◌, ◌or_read◌, after_gap}
+use Rattle.text.specs.Text.{lower, peek_of, keyword_of, Read, got, refused, ◌>>=◌}
 use Rattle.text.proofs.Laws.{bind-got, bind-refused, or-first, or-second}
 use Rattle.gradient.specs.declared.Vertical.{Vertical}
 use Rattle.gradient.specs.declared.Horizontal.{Horizontal}
@@ -15,21 +14,20 @@ use Rattle.gradient.specs.declared.Coordinate.{Coordinate}
 use Rattle.tokens.specs.declared.Unit.{Unit}
 use Rattle.tokens.specs.declared.Unit.TheVariants as U
 use Rattle.tokens.specs.declared.Number.{Number}
-use Rattle.tokens.specs.Number.{number, exact}
+use Rattle.tokens.specs.Number.{exact}
 use Rattle.tokens.specs.Color.{begins}
 use Rattle.directions.specs.Direction.{horizontal_of, vertical_of}
 use Rattle.circles.specs.declared.Part.{Part}
 use Rattle.circles.specs.declared.Part.TheVariants as P
-use Rattle.circles.specs.declared.Axis.{Axis}
 use Rattle.circles.specs.declared.Axis.TheVariants as A
 use Rattle.circles.specs.declared.Place.{Place}
 use Rattle.circles.specs.declared.Pair.{Pair}
 use Rattle.circles.specs.declared.Pair.TheVariants as Two
-use Rattle.circles.specs.Position.{as_coordinate, coordinate_of, part_of, across_at, down_at, as_across, as_down, is_keyword, place, middle, one_part, two_parts, placed, second_of, position_of}
+use Rattle.circles.specs.Position.{as_coordinate, coordinate_of, part_of, across_at, down_at, as_across, as_down, place, middle, one_part, two_parts, placed, second_of, position_of}
 use Rattle.stoplist.specs.View.{not_comma}
 use Rattle.grammar.specs.Words.{Every, Gap, Space, Word, OneOf, one}
 use Rattle.grammar.specs.Directions.{HorizontalWord, VerticalWord}
-use Rattle.grammar.specs.Positions.{percent, Across, Down, AmountText, AcrossText, DownText, PositionText}
+use Rattle.grammar.specs.Positions.{Across, Down, AmountText, AcrossText, DownText, PositionText}
 use Rattle.grammar.proofs.Laws.{Is, Reads, some, nothing, reads-or, reads_as, reads-map, reads_then, After, after, reads-after, reads-for, gap-low, space-ends, after-reads, after-blank, word-reads, unlike, word-high, not-letter, every_append, gap-plain, word-plain}
 use Rattle.grammar.proofs.Numbers.{Numbered, NumberText, reads-number, number-reads, number-first, no_number, number-plain}
 use Rattle.grammar.proofs.Directions.{reads-horizontal, reads-vertical, horizontal-reads, vertical-reads, vertical-not, horizontal-high, vertical-high, horizontal-plain, vertical-plain}

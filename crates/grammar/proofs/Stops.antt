@@ -9,7 +9,7 @@ use lib.Dec.{ltb}
 use lib.ListN.{length}
 use lib.IntN.{ℤ}
 use borrow.Author.Tests.{eqb-true, le-ltb, ltb-false, not-true}
-use Rattle.text.specs.Text.{is, map_read, peek_of, Read, got, refused, ◌>>=◌, ◌or_read◌, after_gap, whole_of}
+use Rattle.text.specs.Text.{is, map_read, peek_of, Read, got, refused, ◌>>=◌, whole_of}
 use Rattle.text.proofs.Laws.{bind-got, bind-refused, or-first, or-second}
 use Rattle.gradient.specs.declared.Color.{Color}
 use Rattle.gradient.specs.declared.Position.{Position}

@@ -1,13 +1,13 @@
 -- The definition of reading a text is the grammar. Assumes nothing.
-use mathlib.Core.Path.{◌≡◌, refl, sym, ap, ◌∙◌}
+use mathlib.Core.Path.{◌≡◌, refl, sym, ◌∙◌}
 use mathlib.Core.List.{List, [], ◌∷◌, ◌++◌, append_assoc}
 use mathlib.Core.Bool.{Bool, true, false, cond, ◌&&◌}
 use mathlib.Core.Logic.{◌↔◌}
-use Prim.Native.Nat.{ℕ, ◌≤◌, ◌<◌}
+use Prim.Native.Nat.{ℕ, ◌<◌}
 use Prim.Native.Char.{code}
 use native.Mathlib.Omega.{arith}
 use borrow.Author.Tests.{eqb-true}
-use Rattle.text.specs.Text.{bytes, is, is_nil, is_space, run, past, lower, peek_of, rest_of, keyword_of, word_for, map_read, Read, got, refused, ◌>>=◌, ◌or_read◌, whole_of}
+use Rattle.text.specs.Text.{is, is_nil, is_space, run, past, peek_of, rest_of, map_read, Read, got, refused, ◌>>=◌, whole_of}
 use Rattle.text.proofs.Laws.{bind-got, bind-refused, or-first, or-second, got-refused, run_past}
 use Rattle.gradient.specs.declared.Side.TheVariants as S
 use Rattle.gradient.specs.declared.Direction.{Direction}
@@ -19,7 +19,7 @@ use Rattle.tokens.specs.Number.{exact}
 use Rattle.tokens.specs.Color.{begins}
 use Rattle.directions.specs.Direction.{direction_of}
 use Rattle.circles.specs.Circle.{radial_of}
-use Rattle.stoplist.specs.Stops.{items_of, stops_of, two_stops_of}
+use Rattle.stoplist.specs.Stops.{stops_of, two_stops_of}
 use Rattle.stoplist.specs.View.{not_comma}
 use Rattle.reader.specs.Written.{Written, written}
 use Rattle.reader.specs.Text.{first, others, with_stops, by_direction, linear_of, circular_of, closes_of, body_of, kind_of, of_kind, function_of, gradient_of}

@@ -1,12 +1,12 @@
 -- Texts that document 01 names as outside the grammar, and one that T-01 names. Assumes nothing.
-use mathlib.Core.Path.{◌≡◌, refl}
+use mathlib.Core.Path.{refl}
 use mathlib.Core.Bool.{true}
 use mathlib.Core.List.{[], ◌∷◌}
 use lib.IntN.{pos}
 use Prim.Native.Nat.{ℕ}
 use Prim.Native.String.{String}
-use Rattle.text.specs.Text.{bytes, peek_of, rest_of, run, past, refused, is_space, gap_of, lower, keyword_of, whole_of}
-use Rattle.tokens.specs.Number.{is_digit, decimal, is_negative, after_sign, thousandths, fraction_of, magnitude_of, unit_of, number_of, exact}
+use Rattle.text.specs.Text.{bytes, peek_of, rest_of, run, past, is_space, gap_of, lower, keyword_of, whole_of}
+use Rattle.tokens.specs.Number.{is_digit, decimal, is_negative, after_sign, thousandths, fraction_of, magnitude_of, unit_of, number_of}
 use Rattle.tokens.specs.Color.{color_names, row_of, named_of, color_of}
 use Rattle.directions.specs.Direction.{horizontal_of, vertical_of, horizontal_first, vertical_first, to_of, angle_of, direction_of}
 use Rattle.circles.specs.Position.{coordinate_of, part_of, second_of, position_of}
@@ -18,7 +18,7 @@ use Rattle.gradient.specs.declared.Side.TheVariants as S
 use Rattle.gradient.specs.declared.Direction.TheVariants as D
 use Rattle.gradient.specs.declared.Shape.TheVariants as Sh
 use Rattle.reader.specs.Written.{Written, written}
-use Rattle.reader.specs.Text.{with_stops, linear_of, circular_of, closes_of, body_of, kind_of, function_of, gradient_of}
+use Rattle.reader.specs.Text.{with_stops, linear_of, circular_of, closes_of, body_of, kind_of, function_of}
 use Rattle.grammar.specs.Text.{InGrammar}
 use Rattle.grammar.proofs.Text.{sound, refused-not}
 

@@ -11,7 +11,7 @@ use Rattle.gradient.specs.declared.Shape.{Shape}
 use Rattle.gradient.specs.declared.Shape.TheVariants as Sh
 use Rattle.gradient.specs.declared.Stop.{Stop}
 use Rattle.reader.specs.Written.{Written, written}
-use Rattle.grammar.specs.Words.{Space, Spaced, Word}
+use Rattle.grammar.specs.Words.{Spaced, Word}
 use Rattle.grammar.specs.Stops.{StopsText}
 use Rattle.grammar.specs.Directions.{DirectionText}
 use Rattle.grammar.specs.Circles.{ShapeText}

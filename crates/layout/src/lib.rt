@@ -1,4 +1,6 @@
 // The layout of a gradient: what is written for the C side, and what is taken back. docs/LAYOUT.md has the table.
+#![tactic(auto)]
+
 ghost use Rattle.std.specs.Prelude.{◌≡◌, ◌+◌, ◌*◌, ◌≤◌, ◌<◌, length};
 ghost use Rattle.picture.specs.Picture.{patched, padded};
 ghost use Rattle.words.specs.Word.{word_bytes, each};

@@ -1,12 +1,12 @@
 -- The bounds of line lengths, locations and positions. Assumes nothing.
 use mathlib.Core.Path.{◌≡◌, ap, ap₂, subst}
-use mathlib.Core.Bool.{Bool, true, ◌&&◌}
+use mathlib.Core.Bool.{Bool, true}
 use Prim.Native.Nat.{ℕ, zero, suc, ◌+◌, ◌*◌, ◌-◌, ◌/◌, ◌%◌, ◌≤◌, ◌<◌, min, max}
 use native.Mathlib.Nat.{mul-le-mul, mul-le-mul_right, lt_of_le_of_lt}
 use native.Mathlib.Decide.{dec_le}
 use native.Mathlib.Omega.{arith}
 use lib.IntN.{ℤ, pos, negsuc, nat_abs, neg_ℤ, neg_ℤ-neg_ℤ, ◌*ℤ◌}
-use Rattle.numbers.specs.Biased.{bias, biased, unbiased}
+use Rattle.numbers.specs.Biased.{bias, unbiased}
 use Rattle.numbers.proofs.Integers.{diff-of, diff-abs, biased-is}
 use Rattle.numbers.proofs.Signed.{biased-high}
 use Rattle.numbers.proofs.Units.{length-bound, percentage-bound}
@@ -14,7 +14,6 @@ use Rattle.root.specs.Root.{IsRoot, root_of}
 use Rattle.root.proofs.Laws.{root_is, root-most}
 use Rattle.sine.specs.Sines.{sine_of}
 use Rattle.sine.proofs.Rules.{parts}
-use Rattle.gradient.specs.declared.Side.{Side}
 use Rattle.gradient.specs.declared.Side.TheVariants as S
 use Rattle.gradient.specs.declared.Direction.{Direction}
 use Rattle.gradient.specs.declared.Direction.TheVariants as D

@@ -1,5 +1,7 @@
 // Square roots from a close lower guess and the low 32 bits. All of it is done in 32 bits and without a branch, so that the compiler can find the roots
 // of several pixels at a time.
+#![tactic(auto)]
+
 ghost use Rattle.std.specs.Prelude.{◌≡◌, ℕ, ◌+◌, ◌*◌, ◌%◌, ◌<◌, ◌≤◌};
 ghost use Rattle.lowroots.specs.Found.{root_limit, short_limit, Finds, Sought};
 

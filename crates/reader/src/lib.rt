@@ -1,4 +1,6 @@
 // From the text of a gradient to its value.
+#![tactic(auto)]
+
 ghost use Rattle.std.specs.Prelude.{◌≡◌, drop};
 ghost use Rattle.text.specs.Text.{whole_of};
 ghost use Rattle.tokens.specs.Cut.{cut};

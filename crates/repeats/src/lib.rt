@@ -1,5 +1,7 @@
 // The colors of stops that are repeated, from placed stops that are lent as two slices of numbers. A location is moved by whole periods until it lies
 // from the first stop up to, not including, the last, and has the color that is there. Positions and locations are biased.
+#![tactic(auto)]
+
 ghost use Rattle.std.specs.Prelude.{◌≡◌, ℕ, ◌+◌, ◌-◌, ◌*◌, ◌%◌, ◌≤◌, ◌<◌, length, get_or};
 ghost use Rattle.numbers.specs.Biased.{twice_bias};
 ghost use Rattle.color.specs.Lent.{moved_biased};

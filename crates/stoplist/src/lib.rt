@@ -1,4 +1,6 @@
 // Color stops of the text, and lists of them.
+#![tactic(auto)]
+
 ghost use Rattle.std.specs.Prelude.{◌≡◌, ◌+◌, ◌≤◌, cond, not, ◌||◌, ltb, length, drop};
 ghost use Rattle.text.specs.Text.{after_gap, whole_of};
 ghost use Rattle.gradient.specs.Range.{stop_in};

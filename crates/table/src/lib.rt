@@ -1,5 +1,7 @@
 // Tables of colors by location, each color packed into a word, from placed stops that are lent as two slices of numbers. Between two stops a table is
 // filled by walks, with no division per entry.
+#![tactic(auto)]
+
 ghost use Rattle.std.specs.Prelude.{◌≡◌, List, true, ℕ, ◌+◌, ◌-◌, ◌*◌, ◌/◌, ◌≤◌, ◌<◌, length, get_or};
 ghost use Rattle.color.specs.Stop.{Channel};
 ghost use Rattle.color.specs.Lent.{Lent, Small, last_up_to};

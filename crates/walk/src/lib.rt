@@ -1,4 +1,6 @@
 // The colors between two stops, location by location and with no division: each channel walks in fixed point.
+#![tactic(auto)]
+
 ghost use Rattle.std.specs.Prelude.{◌≡◌, ℕ, ◌+◌, ◌-◌, ◌*◌, ◌/◌, ◌^◌, ◌<◌, ◌≤◌, true, List, length, slice_index};
 ghost use Rattle.numbers.specs.Fraction.{nearest};
 ghost use Rattle.color.specs.Stop.{Channel};

@@ -1,6 +1,6 @@
 -- `checksums::adler32` meets its contract. The invariant: the bytes from i on take the two sums where all of them take the first two. Assumes nothing.
 use mathlib.Core.Path.{refl, sym, ◌∙◌}
-use Prim.Native.Nat.{◌-◌, ◌<◌}
+use Prim.Native.Nat.{◌<◌}
 use native.Mathlib.Omega.{arith}
 use lib.ListN.{length}
 use Rattle.checksums.specs.Adler.{adler}

@@ -1,6 +1,6 @@
 -- `checksums::crc32` meets its contract. The invariant: the bytes from i on take the register where all of them take the first one. Assumes nothing.
 use mathlib.Core.Path.{refl, sym, ap, ◌∙◌}
-use Prim.Native.Nat.{◌-◌, ◌<◌}
+use Prim.Native.Nat.{◌<◌}
 use native.Mathlib.Omega.{arith}
 use lib.ListN.{length}
 use Rattle.checksums.specs.Crc.{swapped, crc}

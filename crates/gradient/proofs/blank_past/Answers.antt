@@ -1,7 +1,6 @@
 -- `gradient::blank_past` meets its contract. The loop's invariant: what is left of the question is the question.
 -- Assumes nothing.
 use mathlib.Core.Path.{◌≡◌, refl, sym, ◌∙◌}
-use Prim.Native.Nat.{◌-◌}
 use native.Mathlib.Omega.{arith}
 use lib.ListN.{length}
 use borrow.Author.Rules.{rules}

@@ -14,9 +14,9 @@ pub returns-then-g-lt2 : goal.returns-then-g-lt2
 unfolding check_of
 returns-then-g-lt2 c =
     elim c.then-g-lt2.branch [
-      then-g-lt2-via-then-g-lt2 w ↦ given-first _ (lt-ltb _ _ w.if-g-lt2.true)
-    | then-g-lt2-via-else-g-lt2+then-not-blank_past w ↦
-        given-next malformed (le-ltb _ _ w.if-g-lt2.false) (given-first _ (rw w.blank_past.ensures at w.if-not-blank_past.true-raw))
+      | then-g-lt2-via-then-g-lt2 w ↦ given-first _ (lt-ltb _ _ w.if-g-lt2.true)
+      | then-g-lt2-via-else-g-lt2+then-not-blank_past w ↦
+          given-next malformed (le-ltb _ _ w.if-g-lt2.false) (given-first _ (rw w.blank_past.ensures at w.if-not-blank_past.true-raw))
     ]
 
 pub shape_in-requires : goal.shape_in-requires
@@ -31,9 +31,9 @@ returns-then-not-shape_in c =
     given-next malformed (le-ltb _ _ c.if-g-lt2.false)
     (given-next malformed (rw c.blank_past.ensures at c.if-not-blank_past.false-raw)
     (elim c.then-not-shape_in.branch [
-      then-not-shape_in-via-then-not-shape_in w ↦ given-first _ (rw c.shape_in.ensures at w.if-not-shape_in.true-raw)
-    | then-not-shape_in-via-else-not-shape_in+then-not-stops_in w ↦
-        given-next out_of_range (rw c.shape_in.ensures at w.if-not-shape_in.false-raw) (given-first _ (rw w.stops_in.ensures at w.if-not-stops_in.true-raw))
+      | then-not-shape_in-via-then-not-shape_in w ↦ given-first _ (rw c.shape_in.ensures at w.if-not-shape_in.true-raw)
+      | then-not-shape_in-via-else-not-shape_in+then-not-stops_in w ↦
+          given-next out_of_range (rw c.shape_in.ensures at w.if-not-shape_in.false-raw) (given-first _ (rw w.stops_in.ensures at w.if-not-stops_in.true-raw))
     ]))
 
 pub returns-then-g-le16 : goal.returns-then-g-le16

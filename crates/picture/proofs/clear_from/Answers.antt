@@ -1,6 +1,5 @@
 -- `picture::clear_from` meets its contract. The invariant: from `at` up to i stand zeros. Assumes nothing.
 use mathlib.Core.Path.{◌≡◌, refl}
-use Prim.Native.Nat.{◌-◌}
 use native.Mathlib.Nat.{sub_self}
 use native.Mathlib.Omega.{arith}
 use lib.ListN.{length, length-set}

@@ -1,6 +1,5 @@
 -- `picture::copy_bytes` meets its contract. The invariant: the first i bytes stand at both places. Assumes nothing.
 use mathlib.Core.Path.{◌≡◌, refl}
-use Prim.Native.Nat.{◌-◌}
 use native.Mathlib.Omega.{arith}
 use lib.ListN.{length-set}
 use Rattle.picture.proofs.Patches.{patch-none, copy_step}

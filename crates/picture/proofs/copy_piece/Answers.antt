@@ -1,6 +1,5 @@
 -- `picture::copy_piece` meets its contract. The invariant: the first i bytes stand from `at` on. Assumes nothing.
 use mathlib.Core.Path.{◌≡◌, refl}
-use Prim.Native.Nat.{◌-◌}
 use native.Mathlib.Omega.{arith}
 use lib.ListN.{length, length-set}
 use lib.Seq.{take-length}

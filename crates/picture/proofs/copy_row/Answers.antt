@@ -1,6 +1,5 @@
 -- `picture::copy_row` meets its contract. The invariant: the first i bytes stand at both places. Assumes nothing.
 use mathlib.Core.Path.{◌≡◌, refl}
-use Prim.Native.Nat.{◌-◌}
 use native.Mathlib.Omega.{arith}
 use Rattle.picture.proofs.Patches.{patch-none, copies-step}
 use Rattle.picture.proofs.copy_row.Goals as goal

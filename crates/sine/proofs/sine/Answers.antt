@@ -1,7 +1,6 @@
 -- `sine::sine` meets its contract: the code's table is the list of differences, and s a rebuilt sine after each round.
 -- Assumes nothing.
 use mathlib.Core.Path.{◌≡◌, refl, ap, ◌∙◌}
-use Prim.Native.Nat.{◌-◌}
 use native.Mathlib.Omega.{arith}
 use Rattle.sine.specs.Sines.{sines}
 use Rattle.sine.specs.Differences.{differences_of, sum_of, rebuilt_of}

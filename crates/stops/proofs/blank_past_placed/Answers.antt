@@ -1,7 +1,6 @@
 -- `stops::blank_past_placed` meets its contract. The loop's invariant: what is left of the question is the question.
 -- Assumes nothing.
 use mathlib.Core.Path.{◌≡◌, refl, sym, ◌∙◌}
-use Prim.Native.Nat.{◌-◌}
 use native.Mathlib.Omega.{arith}
 use lib.ListN.{length}
 use borrow.Author.Rules.{rules}

@@ -22,13 +22,13 @@ pub returns-then-p-lt2 : goal.returns-then-p-lt2
 unfolding check_placed_of
 returns-then-p-lt2 c =
     elim c.then-p-lt2.branch [
-      then-p-lt2-via-then-p-lt2 w ↦ given-first _ (lt-ltb _ _ w.if-p-lt2.true)
-    | then-p-lt2-via-else-p-lt2+then-not-are_rising w ↦
-        given-next malformed (le-ltb _ _ w.if-p-lt2.false) (given-first _ (rw w.are_rising.ensures at w.if-not-are_rising.true-raw))
-    | then-p-lt2-via-else-p-lt2+else-not-are_rising+then-not-blank_past_placed w ↦
-        given-next malformed (le-ltb _ _ w.if-p-lt2.false)
-        (given-next malformed (rw w.are_rising.ensures at w.if-not-are_rising.false-raw)
-        (given-first _ (rw w.blank_past_placed.ensures at w.if-not-blank_past_placed.true-raw)))
+      | then-p-lt2-via-then-p-lt2 w ↦ given-first _ (lt-ltb _ _ w.if-p-lt2.true)
+      | then-p-lt2-via-else-p-lt2+then-not-are_rising w ↦
+          given-next malformed (le-ltb _ _ w.if-p-lt2.false) (given-first _ (rw w.are_rising.ensures at w.if-not-are_rising.true-raw))
+      | then-p-lt2-via-else-p-lt2+else-not-are_rising+then-not-blank_past_placed w ↦
+          given-next malformed (le-ltb _ _ w.if-p-lt2.false)
+          (given-next malformed (rw w.are_rising.ensures at w.if-not-are_rising.false-raw)
+          (given-first _ (rw w.blank_past_placed.ensures at w.if-not-blank_past_placed.true-raw)))
     ]
 
 pub places_in-requires : goal.places_in-requires

@@ -1,6 +1,5 @@
 -- `text::keyword` meets its contract. The invariant: the rest of the word is at the cursor where the whole word is at the start. Assumes nothing.
 use mathlib.Core.Path.{refl, sym, ap, ◌∙◌}
-use Prim.Native.Nat.{◌-◌}
 use native.Mathlib.Omega.{arith}
 use borrow.Author.Rules.{rules}
 use Rattle.text.specs.Text.{lower}

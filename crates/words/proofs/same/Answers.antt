@@ -1,6 +1,5 @@
 -- `words::same` meets its contract. The invariant: what is left of the question. Assumes nothing.
 use mathlib.Core.Path.{refl, sym, ◌∙◌}
-use Prim.Native.Nat.{◌-◌}
 use native.Mathlib.Omega.{arith}
 use borrow.Author.Rules.{rules}
 use Rattle.words.proofs.Equal.{equal-short, equal-end, equal-stop, equal-go}

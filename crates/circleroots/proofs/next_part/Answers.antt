@@ -1,0 +1,73 @@
+-- `circleroots::next_part` meets its contract. The invariant: each number so far is found from one other, and the rest are as they were.
+-- Assumes nothing.
+use Rattle.std.proofs.Common.{ℕ, refl, ◌∙◌, arith, length-set, rules}
+use Rattle.circleroots.proofs.Parts.{each_set, kept-none, kept_set}
+use Rattle.circleroots.proofs.Rows.{OnwardAt, next-found}
+use Rattle.circleroots.proofs.next_part.Goals as goal
+
+pub square-requires : goal.square-requires
+square-requires c = search rules
+
+pub low_half-r-requires : goal.low_half-r-requires
+low_half-r-requires c = search rules
+
+pub descent-down-requires : goal.descent-down-requires
+descent-down-requires c = search rules
+
+pub loop-i-init : goal.loop-i-init
+loop-i-init c = (omega arith, omega arith, refl, λ k p q. absurd (omega arith), kept-none _ _)
+
+pub offset_bounds-low-i : goal.offset_bounds-low-i
+offset_bounds-low-i c = search rules
+
+pub bounds-low-i : goal.bounds-low-i
+bounds-low-i c = search rules
+
+pub wrapping_add_u32-l-requires : goal.wrapping_add_u32-l-requires
+wrapping_add_u32-l-requires c = search rules
+
+pub offset_bounds-last-i : goal.offset_bounds-last-i
+offset_bounds-last-i c = search rules
+
+pub less-requires : goal.less-requires
+less-requires c = search rules
+
+pub among_65-requires : goal.among_65-requires
+among_65-requires c = search rules
+
+pub offset_bounds-before-i : goal.offset_bounds-before-i
+offset_bounds-before-i c = search rules
+
+pub bounds-before-i : goal.bounds-before-i
+bounds-before-i c = search rules
+
+pub overflow_add-i : goal.overflow_add-i
+overflow_add-i c = search rules
+
+pub loop-i-smaller : goal.loop-i-smaller
+loop-i-smaller c = search rules
+
+pub loop-i-preserved : goal.loop-i-preserved
+loop-i-preserved c =
+    let a = c.args in
+    let l = c.loop-i in
+    let g = c.less in
+    let b : ℕ = c.among_65.result in (
+      omega arith,
+      omega arith,
+      length-set l.before l.i b ∙ l.invariant.2,
+      each_set (OnwardAt a.low.now c.low_half-r.result a.last.now c.descent-down.result) a.a l.i l.before b (omega arith) l.invariant.3
+          (rw (← c.wrapping_add_u32-l.ensures.value) (record { guess = g.result; is = g.ensures; found = c.among_65.ensures })),
+      kept_set a.a l.i a.before.now l.before b (omega arith) l.invariant.4,
+    )
+
+pub shape_of-before : goal.shape_of-before
+shape_of-before c = search rules
+
+pub returns : goal.returns
+returns c =
+    let a = c.args in
+    let l = c.loop-i in
+    let d = c.descent-down in
+    next-found a.c a.w a.j a.low.now _ _ c.requires.0 a.a a.b c.requires.2 _ _ c.low_half-r.ensures c.square.ensures.0
+    a.before.now a.last.now l.before l.i (omega arith) d.result d.ensures.0 d.ensures.1 l.invariant.3 l.invariant.4 c.requires.3

@@ -1,0 +1,44 @@
+-- `directions::read_vertical` meets its contract. Assumes nothing.
+use Rattle.text.specs.View.{view_match}
+use Rattle.text.proofs.Laws.{seen}
+use Rattle.directions.specs.Direction.{vertical_of}
+use borrow.Author.Rules.{rules}
+use Rattle.directions.proofs.read_vertical.Goals as goal
+
+pub keyword-requires : goal.keyword-requires
+keyword-requires c = search rules
+
+pub enum_known-k : goal.enum_known-k
+enum_known-k c = search rules
+
+pub returns-in-Past : goal.returns-in-Past
+unfolding vertical_of
+returns-in-Past c = rw (← seen (view_match _) c.in-Past.is c.keyword.ensures)
+
+pub enum_told-1 : goal.enum_told-1
+enum_told-1 c = search rules
+
+pub keyword-requires-2 : goal.keyword-requires-2
+keyword-requires-2 c = search rules
+
+pub enum_known-k-in-Past-keyword-2 : goal.enum_known-k-in-Past-keyword-2
+enum_known-k-in-Past-keyword-2 c = search rules
+
+pub returns-in-Past-keyword : goal.returns-in-Past-keyword
+unfolding vertical_of
+returns-in-Past-keyword c =
+    rw (
+      ← seen (view_match _) c.in_default.is c.keyword.ensures,
+      ← seen (view_match _) c.in-Past-keyword.is c.keyword-2.ensures,
+    )
+
+pub enum_told-in_default-keyword : goal.enum_told-in_default-keyword
+enum_told-in_default-keyword c = search rules
+
+pub returns : goal.returns
+unfolding vertical_of
+returns c =
+    rw (
+      ← seen (view_match _) c.in_default.is c.keyword.ensures,
+      ← seen (view_match _) c.in_default-keyword.is c.keyword-2.ensures,
+    )

@@ -1,0 +1,21 @@
+-- `layout::coordinate_word` meets its contract. Assumes nothing.
+use borrow.Author.Rules.{rules}
+use Rattle.layout.proofs.coordinate_word.Goals as goal
+
+pub enum_known-c : goal.enum_known-c
+enum_known-c c = search rules
+
+pub bits-requires : goal.bits-requires
+bits-requires c = search rules
+
+pub enum_known-c-in-Percentage-1 : goal.enum_known-c-in-Percentage-1
+enum_known-c-in-Percentage-1 c = search rules
+
+pub bits-requires-in-Percentage : goal.bits-requires-in-Percentage
+bits-requires-in-Percentage c = search rules
+
+pub returns-in-Length : goal.returns-in-Length
+returns-in-Length c = rw (c.in-Length.is, c.bits.ensures) (search rules)
+
+pub returns-in-Percentage : goal.returns-in-Percentage
+returns-in-Percentage c = rw (c.in-Percentage.is, c.bits-in-Percentage.ensures) (search rules)

@@ -1,0 +1,27 @@
+-- `lowroots::among_16` meets its contract. Assumes nothing.
+use Rattle.std.proofs.Common.{arith, rules}
+use Rattle.lowroots.proofs.Found.{found}
+use Rattle.lowroots.proofs.among_16.Goals as goal
+
+pub begin-requires : goal.begin-requires
+begin-requires c = search rules
+
+pub halved-requires : goal.halved-requires
+halved-requires c = search rules
+
+pub halved-s-requires : goal.halved-s-requires
+halved-s-requires c = search rules
+
+pub halved-requires-2 : goal.halved-requires-2
+halved-requires-2 c = search rules
+
+pub halved-requires-3 : goal.halved-requires-3
+halved-requires-3 c = search rules
+
+pub returns : goal.returns
+returns c = λ z is small lo hi.
+    let s = c.begin.ensures.1 z 16 is small (omega arith) lo hi in
+    let h = c.halved.ensures.1 z 8 (omega arith) s in
+    let h₂ = c.halved-s.ensures.1 z 4 (omega arith) h in
+    let h₃ = c.halved-2.ensures.1 z 2 (omega arith) h₂ in
+    found z c.halved-3.result (c.halved-3.ensures.1 z 1 (omega arith) h₃)

@@ -1,0 +1,39 @@
+-- `lowroots::among_65` meets its contract. Assumes nothing.
+use Rattle.std.proofs.Common.{arith, rules}
+use Rattle.lowroots.proofs.Found.{found}
+use Rattle.lowroots.proofs.among_65.Goals as goal
+
+pub begin-requires : goal.begin-requires
+begin-requires c = search rules
+
+pub halved-requires : goal.halved-requires
+halved-requires c = search rules
+
+pub halved-requires-2 : goal.halved-requires-2
+halved-requires-2 c = search rules
+
+pub halved-s-requires : goal.halved-s-requires
+halved-s-requires c = search rules
+
+pub halved-requires-3 : goal.halved-requires-3
+halved-requires-3 c = search rules
+
+pub halved-requires-4 : goal.halved-requires-4
+halved-requires-4 c = search rules
+
+pub halved-requires-5 : goal.halved-requires-5
+halved-requires-5 c = search rules
+
+pub halved-requires-6 : goal.halved-requires-6
+halved-requires-6 c = search rules
+
+pub returns : goal.returns
+returns c = λ z is small lo hi.
+    let s = c.begin.ensures.1 z 65 is small (omega arith) lo hi in
+    let h = c.halved.ensures.1 z 33 (omega arith) s in
+    let h₂ = c.halved-2.ensures.1 z 17 (omega arith) h in
+    let h₃ = c.halved-s.ensures.1 z 9 (omega arith) h₂ in
+    let h₄ = c.halved-3.ensures.1 z 5 (omega arith) h₃ in
+    let h₅ = c.halved-4.ensures.1 z 3 (omega arith) h₄ in
+    let h₆ = c.halved-5.ensures.1 z 2 (omega arith) h₅ in
+    found z c.halved-6.result (c.halved-6.ensures.1 z 1 (omega arith) h₆)

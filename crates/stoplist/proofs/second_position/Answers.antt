@@ -1,0 +1,23 @@
+-- `stoplist::second_position` meets its contract. Assumes nothing.
+use borrow.Author.Rules.{rules}
+use Rattle.text.specs.View.{view_match}
+use Rattle.text.proofs.Laws.{seen, bind-got, bind-refused}
+use Rattle.stoplist.proofs.second_position.Goals as goal
+
+pub gap-requires : goal.gap-requires
+gap-requires c = search rules
+
+pub enum_known-k : goal.enum_known-k
+enum_known-k c = search rules
+
+pub enum_told-1 : goal.enum_told-1
+enum_told-1 c = search rules
+
+pub returns-in_default : goal.returns-in_default
+returns-in_default c = bind-refused _ (seen (view_match _) c.in_default.is c.gap.ensures)
+
+pub read_position-requires : goal.read_position-requires
+read_position-requires c = search rules
+
+pub returns : goal.returns
+returns c = bind-got _ (seen (view_match _) c.in-Past.is c.gap.ensures) c.read_position.ensures
