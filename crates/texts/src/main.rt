@@ -1,14 +1,16 @@
 // Reads texts from standard input, one to a line, and prints for each the reply and the gradient that reading it hands out.
 // tests/reading/independent.py describes the lines, and finds them from the rules alone.
+#![tactic(auto)]
+
 ghost use Rattle.std.specs.Prelude.{◌≤◌, ◌<◌, length};
-ghost use Rattle.io.specs.Counts.{IsPrefixLen};
+ghost use Rattle.texts.specs.Counts.{IsPrefixLen};
 
 use gradient::{
     Color, Coordinate, Direction, Extent, Gradient, Horizontal, Position, Shape, Side, Size, Stop,
     Vertical,
 };
-use libc::{STDIN_FILENO, STDOUT_FILENO};
 use reader::Reading;
+use std::io::Read;
 use text::Cursor;
 
 // A byte of a text, and where the next one starts in its line.
@@ -18,173 +20,174 @@ pub struct Byte {
     pub next: usize,
 }
 
-fn say(s: &[u8]) {
-    io::write_all(STDOUT_FILENO, s);
+// What cannot be written is left out.
+fn say(rt: &impl Print, s: &[u8]) {
+    let _ = rt.write_all(s);
 }
 
 // ---- a gradient
 
-fn say_digit(n: u64) {
-    io::print_decimal(STDOUT_FILENO, n % 10);
+fn say_digit(rt: &impl Print, n: u64) {
+    let _ = rt.print(n % 10);
 }
 
-fn say_number(thousandths: i32, unit: &[u8]) {
+fn say_number(rt: &impl Print, thousandths: i32, unit: &[u8]) {
     if thousandths < 0 {
-        say(b"-");
+        say(rt, b"-");
     }
     let m = numbers::magnitude(thousandths) as u64;
-    io::print_decimal(STDOUT_FILENO, m / 1000);
-    say(b".");
-    say_digit(m / 100);
-    say_digit(m / 10);
-    say_digit(m);
-    say(unit);
+    let _ = rt.print(m / 1000);
+    say(rt, b".");
+    say_digit(rt, m / 100);
+    say_digit(rt, m / 10);
+    say_digit(rt, m);
+    say(rt, unit);
 }
 
-fn say_horizontal(a: Horizontal) {
+fn say_horizontal(rt: &impl Print, a: Horizontal) {
     match a {
-        Horizontal::Left => say(b"left"),
-        Horizontal::Right => say(b"right"),
+        Horizontal::Left => say(rt, b"left"),
+        Horizontal::Right => say(rt, b"right"),
     }
 }
 
-fn say_vertical(v: Vertical) {
+fn say_vertical(rt: &impl Print, v: Vertical) {
     match v {
-        Vertical::Top => say(b"top"),
-        Vertical::Bottom => say(b"bottom"),
+        Vertical::Top => say(rt, b"top"),
+        Vertical::Bottom => say(rt, b"bottom"),
     }
 }
 
-fn say_side(s: Side) {
+fn say_side(rt: &impl Print, s: Side) {
     match s {
-        Side::Top => say(b"top"),
-        Side::Right => say(b"right"),
-        Side::Bottom => say(b"bottom"),
-        Side::Left => say(b"left"),
+        Side::Top => say(rt, b"top"),
+        Side::Right => say(rt, b"right"),
+        Side::Bottom => say(rt, b"bottom"),
+        Side::Left => say(rt, b"left"),
     }
 }
 
-fn say_direction(d: Direction) {
+fn say_direction(rt: &impl Print, d: Direction) {
     match d {
         Direction::Side(s) => {
-            say(b"to ");
-            say_side(s);
+            say(rt, b"to ");
+            say_side(rt, s);
         }
         Direction::Corner(v, a) => {
-            say(b"to ");
-            say_vertical(v);
-            say(b" ");
-            say_horizontal(a);
+            say(rt, b"to ");
+            say_vertical(rt, v);
+            say(rt, b" ");
+            say_horizontal(rt, a);
         }
-        Direction::Angle(a) => say_number(a, b"deg"),
+        Direction::Angle(a) => say_number(rt, a, b"deg"),
     }
 }
 
-fn say_extent(e: Extent) {
+fn say_extent(rt: &impl Print, e: Extent) {
     match e {
-        Extent::ClosestSide => say(b"closest-side"),
-        Extent::ClosestCorner => say(b"closest-corner"),
-        Extent::FarthestSide => say(b"farthest-side"),
-        Extent::FarthestCorner => say(b"farthest-corner"),
+        Extent::ClosestSide => say(rt, b"closest-side"),
+        Extent::ClosestCorner => say(rt, b"closest-corner"),
+        Extent::FarthestSide => say(rt, b"farthest-side"),
+        Extent::FarthestCorner => say(rt, b"farthest-corner"),
     }
 }
 
-fn say_size(z: Size) {
+fn say_size(rt: &impl Print, z: Size) {
     match z {
-        Size::Extent(e) => say_extent(e),
-        Size::Length(t) => say_number(t, b"px"),
+        Size::Extent(e) => say_extent(rt, e),
+        Size::Length(t) => say_number(rt, t, b"px"),
     }
 }
 
-fn say_coordinate(c: Coordinate) {
+fn say_coordinate(rt: &impl Print, c: Coordinate) {
     match c {
-        Coordinate::Length(t) => say_number(t, b"px"),
-        Coordinate::Percentage(p) => say_number(p, b"%"),
+        Coordinate::Length(t) => say_number(rt, t, b"px"),
+        Coordinate::Percentage(p) => say_number(rt, p, b"%"),
     }
 }
 
-fn say_shape(s: Shape) {
+fn say_shape(rt: &impl Print, s: Shape) {
     match s {
         Shape::Linear(d) => {
-            say(b"linear ");
-            say_direction(d);
+            say(rt, b"linear ");
+            say_direction(rt, d);
         }
         Shape::Circle(z, x, y) => {
-            say(b"radial ");
-            say_size(z);
-            say(b" at ");
-            say_coordinate(x);
-            say(b" ");
-            say_coordinate(y);
+            say(rt, b"radial ");
+            say_size(rt, z);
+            say(rt, b" at ");
+            say_coordinate(rt, x);
+            say(rt, b" ");
+            say_coordinate(rt, y);
         }
     }
 }
 
-fn say_channel(b: u8) {
-    io::print_hex(STDOUT_FILENO, b as u64, 2);
+fn say_channel(rt: &impl Print, b: u8) {
+    let _ = print!(rt; "{b:02x}");
 }
 
-fn say_color(c: Color) {
-    say(b"#");
-    say_channel(c.red);
-    say_channel(c.green);
-    say_channel(c.blue);
-    say_channel(c.alpha);
+fn say_color(rt: &impl Print, c: Color) {
+    say(rt, b"#");
+    say_channel(rt, c.red);
+    say_channel(rt, c.green);
+    say_channel(rt, c.blue);
+    say_channel(rt, c.alpha);
 }
 
-fn say_position(p: Position) {
+fn say_position(rt: &impl Print, p: Position) {
     match p {
         Position::Auto => (),
         Position::Length(t) => {
-            say(b" ");
-            say_number(t, b"px");
+            say(rt, b" ");
+            say_number(rt, t, b"px");
         }
         Position::Percentage(t) => {
-            say(b" ");
-            say_number(t, b"%");
+            say(rt, b" ");
+            say_number(rt, t, b"%");
         }
     }
 }
 
-fn say_stop(s: Stop) {
-    say(b" | ");
+fn say_stop(rt: &impl Print, s: Stop) {
+    say(rt, b" | ");
     let c = s.color;
-    say_color(c);
+    say_color(rt, c);
     let p = s.position;
-    say_position(p);
+    say_position(rt, p);
 }
 
-fn say_stops(g: Gradient) {
+fn say_stops(rt: &impl Print, g: Gradient) {
     let n = g.count as usize;
     let mut i: usize = 0;
     while i < 16 && i < n {
         let s = g.stops[i];
-        say_stop(s);
+        say_stop(rt, s);
         i += 1;
     }
 }
 
-fn say_gradient(g: Gradient) {
+fn say_gradient(rt: &impl Print, g: Gradient) {
     if g.repeating {
-        say(b"repeating ");
+        say(rt, b"repeating ");
     }
     let s = g.shape;
-    say_shape(s);
-    say_stops(g);
+    say_shape(rt, s);
+    say_stops(rt, g);
 }
 
-fn say_reading(r: Reading) {
-    io::print_decimal(STDOUT_FILENO, r.reply as u64);
+fn say_reading(rt: &impl Print, r: Reading) {
+    let _ = rt.print(r.reply);
     let g = r.gradient;
     if r.reply == 0 {
-        say(b" ");
-        say_gradient(g);
+        say(rt, b" ");
+        say_gradient(rt, g);
     } else if g.count == 0 {
-        say(b" blank");
+        say(rt, b" blank");
     } else {
-        say(b" not blank");
+        say(rt, b" not blank");
     }
-    say(b"\n");
+    say(rt, b"\n");
 }
 
 // ---- a line
@@ -266,15 +269,15 @@ fn read_line(line: &[u8], out: &mut [u8]) -> usize
 }
 
 // A line that starts with # is a heading. A text that does not fit the buffer is cut: it is longer than a text may be either way.
-fn say_line(line: &[u8]) {
+fn say_line(rt: &impl Print, line: &[u8]) {
     if text::peek(line, Cursor { at: 0 }) == b'#' {
-        say(line);
-        say(b"\n");
+        say(rt, line);
+        say(rt, b"\n");
         return;
     }
-    let mut bytes = io::buffer();
+    let mut bytes = [0u8; 4096];
     let n = read_line(line, &mut bytes);
-    say_reading(reader::read(&bytes[..n]));
+    say_reading(rt, reader::read(&bytes[..n]));
 }
 
 // ---- all lines
@@ -294,21 +297,37 @@ fn find_line_end(s: &[u8], from: usize) -> usize
     i
 }
 
-fn say_lines(s: &[u8]) {
+fn say_lines(rt: &impl Print, s: &[u8]) {
     let mut at: usize = 0;
     while at < s.len() {
         let end = find_line_end(s, at);
-        say_line(&s[at..end]);
+        say_line(rt, &s[at..end]);
         at = end + 1;
     }
 }
 
-fn main() {
-    let mut input = io::large_buffer();
-    let n = io::read_full(STDIN_FILENO, &mut input);
+// ---- the input
+
+// Reads until the buffer is full, the input ends or a read fails, and answers how many bytes were put at the start of the buffer.
+fn read_full(input: &mut impl Read, buf: &mut [u8]) -> usize
+    ensures { IsPrefixLen result buf.new }
+{
+    let mut done = 0;
+    while done < buf.len() {
+        match input.read(&mut buf[done..]) {
+            Ok(0) | Err(_) => return done,
+            Ok(n) => done += n,
+        }
+    }
+    done
+}
+
+fn main(rt: HostRuntime) {
+    let mut input = [0u8; 65536];
+    let n = read_full(&mut rt.stdin(), &mut input);
     if n == 65536 {
-        say(b"the input is too long: it may have 65,535 bytes\n");
+        say(&rt, b"the input is too long: it may have 65,535 bytes\n");
         return;
     }
-    say_lines(&input[..n]);
+    say_lines(&rt, &input[..n]);
 }
