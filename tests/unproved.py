@@ -1,20 +1,8 @@
-"""Builds Rattle programs over the crates of a tree, without proving anything: for tests/edits/try and bench/against."""
+"""Runs Rattle programs over the crates of a tree, without proving anything: for tests/edits/try."""
 
-import platform
 import re
 import shutil
 import subprocess
-from pathlib import Path
-
-
-KEEPER = """#!/bin/sh
-PATH=/usr/bin:/bin
-"{linker}" "$@" || exit 1
-echo >>"{folder}/linked"
-[ "$(wc -l <"{folder}/linked")" -lt {nth} ] && exit 0
-cp program "{folder}/program"
-exit 1
-"""
 
 
 class Failure(Exception):
@@ -22,43 +10,20 @@ class Failure(Exception):
 
 
 def read_uses(path):
-    """The crates that a file lists, each with those that it uses."""
+    """The crates that a file lists, each with those that it uses. A word after the name, as `staticlib`, is left out."""
     crates = {}
     for line in path.read_text().splitlines():
-        name, colon, used = line.partition("#")[0].partition(":")
+        names, colon, used = line.partition("#")[0].partition(":")
         if colon:
-            crates[name.strip()] = used.split()
+            crates[names.split()[0]] = used.split()
     return crates
 
 
 class Toolchain:
     def __init__(self):
-        rt = shutil.which("rt")
-        if not rt:
+        self.rt = shutil.which("rt")
+        if not self.rt:
             raise Failure("rt is not in the PATH")
-        guide = subprocess.run([rt, "doc"], capture_output=True, text=True, check=True).stdout.strip()
-        self.home = Path(guide).parents[1]
-        self.own = self.home / "on" / platform.machine()
-        self.tools = self.own / "toolchain"
-        if not self.tools.is_dir():
-            raise Failure(f"no toolchain for {platform.machine()} at {self.home}")
-        self.libraries = read_uses(self.home / "libs" / "libs.txt")
-
-    def library(self, name):
-        return self.home / "libs" / name / "src" / "lib.rt"
-
-    def keeping(self, nth, folder):
-        """The toolchain with a linker that keeps the nth program that `rattle-cases` builds, and then stops it. The first is not optimized, and
-        the second is; both would be run, and more built."""
-        tools = folder / "toolchain"
-        (tools / "bin").mkdir(parents=True)
-        (tools / "lib").symlink_to(self.tools / "lib")
-        for tool in ("clang", "llvm-ar"):
-            (tools / "bin" / tool).symlink_to(self.tools / "bin" / tool)
-        linker = tools / "bin" / "ld.lld"
-        linker.write_text(KEEPER.format(linker=f"{self.tools}/bin/ld.lld", folder=folder, nth=nth))
-        linker.chmod(0o755)
-        return tools
 
 
 class Program:
@@ -68,41 +33,40 @@ class Program:
         self.toolchain = toolchain
         self.tree = tree
         self.crates = read_uses(tree / "crates.txt")
-        self.folder = folder
+        self.folder = folder / "run"
         self.own = own or {}
 
-    def code_of(self, name):
-        if name in self.own:
-            return self.own[name]
-        if name in self.crates:
-            return self.tree / "crates" / name / "src" / "lib.rt"
-        return self.toolchain.library(name)
-
-    def libraries(self, text):
-        """The libraries that a text names, and all that they use, as arguments."""
-        words, seen = [], set()
-        todo = [n for n in re.findall(r"\b(\w+)::", text) if n in self.crates or n in self.toolchain.libraries] + ["std"]
+    def used(self, text):
+        """The crates of the tree that a text names, and all that they use."""
+        seen, todo = set(), [n for n in re.findall(r"\b(\w+)::", text) if n in self.crates]
         while todo:
             name = todo.pop()
-            if name in seen:
-                continue
-            seen.add(name)
-            words += ["--lib", f"{name}={self.code_of(name)}"]
-            todo += self.crates.get(name) or self.toolchain.libraries.get(name, [])
-        return words
+            if name not in seen:
+                seen.add(name)
+                todo += [n for n in self.crates[name] if n in self.crates]
+        return seen
 
-    def build(self, text, optimized=False):
-        main = self.folder / "main" / "main.rt"
+    def build(self, text):
+        """Lays out the program and what it uses, as `rt try` wants them."""
+        used = self.used(text)
+        lines = [f"{name}: {' '.join(self.crates[name])}" for name in sorted(used)]
+        for name in used:
+            to = self.folder / "crates" / name
+            shutil.copytree(self.own[name].parent if name in self.own else self.tree / "crates" / name / "src", to / "src")
+            specs = self.tree / "crates" / name / "specs"
+            if specs.is_dir():
+                shutil.copytree(specs, to / "specs")
+        main = self.folder / "crates" / "probe" / "src" / "main.rt"
         main.parent.mkdir(parents=True)
         main.write_text(text)
-        words = [main, "--crate-name", "program", *self.libraries(text)]
-        commands = self.toolchain.own / "bin"
-        tools = self.toolchain.keeping(2 if optimized else 1, self.folder)
-        built = subprocess.run([commands / "rattle-cases", "--toolchain", tools, *words], capture_output=True, text=True)
-        if not (self.folder / "program").is_file():
-            wrong = subprocess.run([commands / "rattle-print-mir", *words], capture_output=True, text=True)
-            raise Failure("it does not compile:\n" + (wrong.stderr or built.stderr).replace(f"{self.folder}/", "").strip())
+        (self.folder / "crates.txt").write_text("\n".join([*lines, f"probe: {' '.join(sorted(used))} io"]) + "\n")
 
-    def command(self):
-        lib = self.toolchain.tools / "lib"
-        return [lib / "ld-linux-x86-64.so.2", "--library-path", lib, self.folder / "program"]
+    def run(self, seconds):
+        """Compiles the program and runs it, and answers what it printed, how it ended where it was not by returning, and what rt said."""
+        words = [self.toolchain.rt, "try", "--seconds", str(seconds), "--steps", "20000000"]
+        ran = subprocess.run(words, cwd=self.folder / "crates" / "probe", capture_output=True, stdin=subprocess.DEVNULL)
+        said = ran.stderr.decode(errors="replace")
+        if ran.returncode in (1, 2, 3) and "run=ended" not in said:
+            raise Failure("it does not compile:\n" + said.replace(f"{self.folder}/", "").strip())
+        ended = {0: "", 4: "a fault", 5: "two runs differ", 6: f"no answer within {seconds} s"}.get(ran.returncode, f"exit status {ran.returncode}")
+        return ran.stdout.decode(errors="replace"), ended

@@ -1,4 +1,6 @@
 // Draws the rows of a picture along a horizontal or a vertical line, from a table with one entry for each column or each row.
+#![tactic(auto)]
+
 ghost use Rattle.std.specs.Prelude.{◌≡◌, List, ℕ, ◌+◌, ◌-◌, ◌*◌, ◌≤◌, ◌<◌, length};
 ghost use Rattle.picture.specs.Picture.{row, copies, strip, patched};
 ghost use Rattle.words.specs.Word.{word_bytes};

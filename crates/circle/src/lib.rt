@@ -1,5 +1,7 @@
 // Strips of a picture around a circle's center, colored by the table of a ramp. Each row's locations come from the two rows above. The bytes are those
 // that `rows` draws, sooner.
+#![tactic(auto)]
+
 ghost use Rattle.std.specs.Prelude.{◌≡◌, List, ℕ, ◌+◌, ◌*◌, ◌≤◌, ◌<◌, length, get_or};
 ghost use Rattle.line.specs.Box.{Box};
 ghost use Rattle.line.specs.Location.{Rule, location_by};

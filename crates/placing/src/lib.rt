@@ -1,4 +1,6 @@
 // From a gradient and a box to placed stops. Inside, positions are biased, and 0 stands for a stop that is not placed.
+#![tactic(auto)]
+
 ghost use Rattle.std.specs.Prelude.{◌≡◌, true, map, ℕ, ◌+◌, ◌≤◌, ◌<◌, max, pos, length, take, drop, get_or};
 ghost use Rattle.numbers.specs.Biased.{twice_bias, unbiased};
 ghost use Rattle.gradient.specs.Blank.{blank_stop};

@@ -1,6 +1,8 @@
 // A ramp: the color of every location, in one lent slice of words. Its head holds the stops: their number, the first location of the table, whether they
 // are repeated, room for 16 positions and for 64 values. The rest is the table, one packed color for each unit; it may be empty. Only this crate knows the
 // order of the words.
+#![tactic(auto)]
+
 ghost use Rattle.std.specs.Prelude.{◌≡◌, true, List, map, ℕ, ◌+◌, ◌-◌, ◌*◌, ◌≤◌, ◌<◌, length, get_or, take, set};
 ghost use Rattle.numbers.specs.Biased.{bias, twice_bias};
 ghost use Rattle.stops.specs.Bytes.{AllBytes};

@@ -1,6 +1,6 @@
 -- Places whose whole parts are certain: the entry of each in the table, and that it is the location.
 -- Assumes nothing.
-use Rattle.std.proofs.Common.{◌≡◌, ℕ, ◌+◌, ◌-◌, ◌*◌, ◌/◌, ◌%◌, ◌<◌, ◌≤◌, sym, ◌∙◌, add-zero, arith}
+use Rattle.std.proofs.Common.{◌≡◌, ℕ, ◌+◌, ◌-◌, ◌*◌, ◌/◌, ◌%◌, ◌<◌, ◌≤◌, ◌∙◌, add-zero, arith}
 use Rattle.line.specs.Location.{location_by}
 use Rattle.line.specs.Represented.{rule_in}
 use Rattle.line.specs.declared.SignedVector.{SignedVector}

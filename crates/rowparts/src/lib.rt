@@ -1,5 +1,7 @@
 // Parts of rows along a straight line: the same bytes as `rows` draws, faster. Locations are found in fixed point. Colors come from the ramp's table or,
 // where there is none, from the walks of stretches.
+#![tactic(auto)]
+
 ghost use Rattle.std.specs.Prelude.{◌≡◌, ℕ, ◌+◌, ◌*◌, ◌<◌, ◌≤◌, List, length};
 ghost use Rattle.line.specs.Represented.{rule_in};
 ghost use Rattle.line.specs.declared.SignedVector.{SignedVector};

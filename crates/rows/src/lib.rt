@@ -1,4 +1,6 @@
 // Draws the rows of a picture into a lent buffer, pixel by pixel. This is the simple code that the faster code is compared with.
+#![tactic(auto)]
+
 ghost use Rattle.std.specs.Prelude.{◌≡◌, ◌+◌, ◌*◌, ◌≤◌, ◌<◌, length};
 ghost use Rattle.picture.specs.Picture.{row, patched};
 ghost use Rattle.line.specs.Location.{location_by};

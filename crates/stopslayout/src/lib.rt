@@ -1,4 +1,6 @@
 // Placed stops as bytes: their one layout, and what a slice of bytes is taken for.
+#![tactic(auto)]
+
 ghost use Rattle.std.specs.Prelude.{◌≡◌, ◌+◌, ◌≤◌, ◌<◌, length};
 ghost use Rattle.picture.specs.Picture.{padded, patched};
 ghost use Rattle.words.specs.Word.{equal};

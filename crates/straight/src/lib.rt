@@ -1,5 +1,7 @@
 // Strips of a picture along a straight line: the same bytes as `rows` draws, faster, in tiles or, where there is no table, row by row. A row that is an
 // earlier row moved sideways is copied from it.
+#![tactic(auto)]
+
 ghost use Rattle.std.specs.Prelude.{◌≡◌, true, false, ◌+◌, ◌-◌, ◌*◌, ◌≤◌, ◌<◌, length};
 ghost use Rattle.std.specs.Bool.{beq};
 ghost use Rattle.line.specs.Box.{Box};

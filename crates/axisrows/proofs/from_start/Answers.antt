@@ -1,0 +1,16 @@
+-- `axisrows::from_start` meets its contract. Assumes nothing.
+use native.Mathlib.Omega.{arith}
+use borrow.Author.Rules.{rules}
+use Rattle.axisrows.proofs.from_start.Goals as goal
+
+pub overflow_sub-result : goal.overflow_sub-result
+overflow_sub-result c = search rules
+
+pub overflow_sub-result-then-back : goal.overflow_sub-result-then-back
+overflow_sub-result-then-back c = search rules
+
+pub returns-then-back : goal.returns-then-back
+returns-then-back c = (rw c.if-back.true, omega arith)
+
+pub returns-else-back : goal.returns-else-back
+returns-else-back c = search rules

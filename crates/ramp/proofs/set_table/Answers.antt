@@ -1,0 +1,31 @@
+-- `ramp::set_table` meets its contract. Assumes nothing.
+use native.Mathlib.Omega.{arith}
+use lib.ListN.{length}
+use borrow.Rule.Slice.PartMut.{mid_len}
+use Rattle.ramp.proofs.Heads.{table-put}
+use borrow.Author.Rules.{rules}
+use Rattle.ramp.proofs.set_table.Goals as goal
+
+pub set_head-requires : goal.set_head-requires
+set_head-requires c = search rules
+
+pub slice_bounds-fill_spaced-count : goal.slice_bounds-fill_spaced-count
+slice_bounds-fill_spaced-count c = search rules
+
+pub slice_bounds-fill_spaced-start : goal.slice_bounds-fill_spaced-start
+slice_bounds-fill_spaced-start c = search rules
+
+pub slice_bounds-fill_spaced-end : goal.slice_bounds-fill_spaced-end
+slice_bounds-fill_spaced-end c = search rules
+
+pub fill_spaced-requires : goal.fill_spaced-requires
+fill_spaced-requires c = search rules
+
+pub shape_of-ramp : goal.shape_of-ramp
+shape_of-ramp c = search rules
+
+pub returns : goal.returns
+returns c =
+    let h = c.set_head in
+    table-put c.args.stops.now h.new.ramp c.fill_spaced.new.t c.args.base c.requires.0 h.ensures.0 (omega (arith, h.ensures.1, c.requires.1)) c.fill_spaced.ensures.0
+    (omega (arith, c.requires.2, h.ensures.1, c.fill_spaced.ensures.1, mid_len 84 (length h.new.ramp) h.new.ramp (omega arith)))

@@ -1,0 +1,13 @@
+-- `rowparts::draw_by_stretches` meets its contract. The invariant: the first k pixels stand from `at` on, and t is a stretch of the ramp. Assumes nothing.
+use Rattle.std.proofs.Common.{◌≡◌, ◌-◌, ◌≤◌, length}
+use Rattle.line.specs.declared.Line.TheVariants as L
+use Rattle.picture.specs.Picture.{part, patched}
+use Rattle.ramp.specs.Ramp.{Held}
+use Rattle.rows.specs.Pixel.{ramp_pixel}
+use Rattle.rowparts.proofs.draw_by_stretches.Given as goal
+
+abbrev pub invariant-loop-k : goal.invariant-loop-k
+invariant-loop-k l = (l.buf ≡ patched l.initial.buf l.at (part (ramp_pixel l.ramp (L.Straight l.v) l.z.w l.z.h) l.i l.k l.j)) × (l.k ≤ l.n) × (length l.buf ≡ length l.initial.buf) × Held l.ramp l.t
+
+abbrev pub decreases-loop-k : goal.decreases-loop-k
+decreases-loop-k l = l.n - l.k
