@@ -14,7 +14,7 @@ use Rattle.line.specs.Box.{Box}
 use Rattle.line.specs.Location.{Rule, location_by}
 use Rattle.line.specs.Represented.{rule_in}
 use Rattle.line.specs.declared.Line.{Line}
-use Rattle.stops.specs.Check.{rising, check_placed_of}
+use Rattle.stops.specs.Check.{check_placed_of}
 use Rattle.stops.specs.declared.PlacedStop.{PlacedStop}
 use Rattle.stops.specs.declared.PlacedStops.{PlacedStops}
 use Rattle.stops.proofs.Laws.{accepted-placed, accepted-places}

@@ -1,4 +1,6 @@
 // The drawing calls over values.
+#![tactic(auto)]
+
 ghost use Rattle.std.specs.Prelude.{◌≡◌, ◌*◌, ◌<◌, length};
 ghost use Rattle.gradient.specs.Check.{Accepted};
 ghost use Rattle.line.specs.Box.{Box};

@@ -1,4 +1,6 @@
 // From text to stops and to pixels.
+#![tactic(auto)]
+
 ghost use Rattle.std.specs.Prelude.{◌≡◌, length};
 ghost use Rattle.stops.specs.Blank.{no_stops};
 ghost use Rattle.from_text.specs.Text.{place_text_of, draw_rows_reply, draw_text_reply, text_rule, text_paint};

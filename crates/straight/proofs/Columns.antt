@@ -11,7 +11,7 @@ use lib.ListN.{length, get_or, take, drop, length-append, length-drop}
 use lib.Seq.{length-take-le, ext_get_or, get_or-take, get_or-drop}
 use borrow.Author.Tests.{lt-ltb, le-ltb}
 use Rattle.picture.specs.Picture.{row, part, strip, patched}
-use Rattle.picture.proofs.Rows.{row-part, part-add, part_length, parts-alike, row-length, strip-none, strip-more, strip-join, strip-split, strips-alike, strip-length, strip-at}
+use Rattle.picture.proofs.Rows.{row-part, part-add, part_length, parts-alike, strip-none, strip-more, strip-join, strip-split, strips-alike, strip-length, strip-at}
 use Rattle.picture.proofs.Patches.{patch-self, patch-within}
 use Rattle.straight.specs.Begun.{four_at, standing, up_to, Begun, Continued}
 

@@ -2,17 +2,16 @@
 -- Assumes nothing.
 use mathlib.Core.Path.{◌≡◌, ap}
 use mathlib.Core.List.{List}
-use Prim.Native.Nat.{ℕ, ◌-◌, ◌*◌}
+use Prim.Native.Nat.{ℕ}
 use Rattle.line.specs.Location.{location_by}
 use Rattle.line.specs.Represented.{rule_in}
 use Rattle.line.specs.declared.Line.{Line}
 use Rattle.line.specs.declared.SignedVector.{SignedVector}
 use Rattle.line.specs.declared.BiasedCenter.{BiasedCenter}
 use Rattle.line.specs.declared.Line.TheVariants as L
-use Rattle.picture.specs.Picture.{strip}
 use Rattle.picture.proofs.Rows.{strips-alike}
 use Rattle.words.specs.Word.{word_bytes}
-use Rattle.ramp.specs.Ramp.{color_in, Like}
+use Rattle.ramp.specs.Ramp.{Like}
 use Rattle.rows.specs.Pixel.{Placed, Rows, Drawable, ramp_pixel, strip_of}
 use Rattle.rows.specs.declared.Strip.{Strip}
 use Rattle.straight.specs.Shift.{Straight}

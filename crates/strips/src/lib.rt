@@ -1,4 +1,6 @@
 // Strips of a picture, each kind of line by the code that is fastest for it. All tables are made here, on the stack, as large as a strip needs.
+#![tactic(auto)]
+
 ghost use Rattle.std.specs.Prelude.{◌≡◌, true, ℕ, ◌+◌, ◌≤◌, ◌<◌, length};
 ghost use Rattle.line.specs.declared.Line.{Line};
 ghost use Rattle.line.specs.Box.{Box};

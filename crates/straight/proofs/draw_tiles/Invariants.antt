@@ -1,0 +1,19 @@
+-- `straight::draw_tiles` meets its contract. The invariant: the rows before row j have the columns up to `end`, those from there on up to `from`.
+-- Assumes nothing.
+use mathlib.Core.Path.{◌≡◌}
+use mathlib.Core.List.{List, ◌++◌}
+use Prim.Native.Nat.{ℕ, ◌+◌, ◌-◌, ◌*◌, ◌≤◌}
+use lib.ListN.{length}
+use Rattle.line.specs.declared.Line.TheVariants as L
+use Rattle.picture.specs.Picture.{strip, patched}
+use Rattle.rows.specs.Pixel.{ramp_pixel}
+use Rattle.straight.specs.Begun.{up_to, Begun}
+use Rattle.straight.proofs.draw_tiles.Given as goal
+
+abbrev pub invariant-loop-j : goal.invariant-loop-j
+invariant-loop-j l = (l.o ≡ l.at + 4 * l.z.w * (l.j - l.z.a)) × (l.z.a ≤ l.j) × (l.j ≤ l.z.b) × (length l.buf ≡ length l.initial.buf)
+    × ((f : ℕ → ℕ → List ℕ) (d : List ℕ) → ((k i : ℕ) → length (f k i) ≡ 4) → length d ≡ length l.initial.buf → Begun (ramp_pixel l.ramp (L.Straight l.v) l.z.w l.z.h) l.z.w l.z.a l.z.b l.from f d l.at l.initial.buf
+    → l.buf ≡ patched d l.at (strip (up_to (ramp_pixel l.ramp (L.Straight l.v) l.z.w l.z.h) l.end f) l.z.w l.z.a l.j ++ strip (up_to (ramp_pixel l.ramp (L.Straight l.v) l.z.w l.z.h) l.from f) l.z.w l.j l.z.b))
+
+abbrev pub decreases-loop-j : goal.decreases-loop-j
+decreases-loop-j l = l.z.b - l.j
