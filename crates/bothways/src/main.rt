@@ -1,5 +1,7 @@
 // Draws random pictures both ways, by the fast code and by the simple loop, and compares every byte. The two have one contract, so this is a test of
 // what the compiler made of them. The numbers come from fixed seeds, so every run draws the same pictures.
+#![tactic(auto)]
+
 ghost use Rattle.std.specs.Prelude.{◌<◌, length};
 ghost use Rattle.gradient.specs.Check.{Accepted};
 ghost use Rattle.line.specs.Box.{Box};
@@ -121,31 +123,38 @@ fn draw_many(kind: u32, sort: u32, n: u32, fast: &mut [u8], plain: &mut [u8]) ->
     t
 }
 
-fn report(kind: u32, sort: u32, n: u32, fast: &mut [u8], plain: &mut [u8]) -> Tally {
+fn report(
+    rt: &impl Print,
+    kind: u32,
+    sort: u32,
+    n: u32,
+    fast: &mut [u8],
+    plain: &mut [u8],
+) -> Tally {
     let t = draw_many(kind, sort, n, fast, plain);
-    tally::say_shape(kind);
-    tally::say_area(sort);
-    tally::say_tally(t);
+    tally::say_shape(rt, kind);
+    tally::say_area(rt, sort);
+    tally::say_tally(rt, t);
     t
 }
 
-fn draw_shapes(fast: &mut [u8], plain: &mut [u8]) -> Tally {
+fn draw_shapes(rt: &impl Print, fast: &mut [u8], plain: &mut [u8]) -> Tally {
     let mut t = tally::none();
     let mut kind: u32 = 0;
     while kind < 10 {
-        let one = report(kind, 0, 600, fast, plain);
+        let one = report(rt, kind, 0, 600, fast, plain);
         t = tally::sum(t, one);
         kind += 1;
     }
     t
 }
 
-fn draw_areas(fast: &mut [u8], plain: &mut [u8]) -> Tally {
+fn draw_areas(rt: &impl Print, fast: &mut [u8], plain: &mut [u8]) -> Tally {
     let mut t = tally::none();
     let mut sort: u32 = 1;
     while sort < 14 {
         let n = if sort < 9 { 300 } else { 60 };
-        let one = report(10, sort, n, fast, plain);
+        let one = report(rt, 10, sort, n, fast, plain);
         t = tally::sum(t, one);
         sort += 1;
     }
@@ -156,15 +165,15 @@ fn buffer() -> [u8; 262144] {
     [0u8; 262144]
 }
 
-fn main() {
+fn main(rt: HostRuntime) {
     let mut fast = buffer();
     let mut plain = buffer();
-    let shapes = draw_shapes(&mut fast, &mut plain);
-    let areas = draw_areas(&mut fast, &mut plain);
+    let shapes = draw_shapes(&rt, &mut fast, &mut plain);
+    let areas = draw_areas(&rt, &mut fast, &mut plain);
     let all = tally::sum(shapes, areas);
-    tally::say(b"in all");
-    tally::say_tally(all);
-    tally::say(b"refused: ");
-    tally::say_number(all.refused);
-    tally::say(b"\n");
+    tally::say(&rt, b"in all");
+    tally::say_tally(&rt, all);
+    tally::say(&rt, b"refused: ");
+    tally::say_number(&rt, all.refused);
+    tally::say(&rt, b"\n");
 }
