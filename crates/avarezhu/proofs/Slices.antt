@@ -13,7 +13,6 @@ use Rattle.line.specs.Line.{rule_of}
 use Rattle.reader.specs.Reading.{read_of}
 use Rattle.stops.specs.declared.PlacedStops.{PlacedStops}
 use Rattle.placing.specs.declared.Placing.{Placing}
-use Rattle.placing.specs.Placed.{placed_in}
 use Rattle.placing.specs.Reply.{handed_out, place_reply, place_of}
 use Rattle.picture.specs.Picture.{buffer}
 use Rattle.drawing.specs.Replies.{gradient_rows_reply, stops_reply}

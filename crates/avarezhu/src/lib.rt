@@ -1,5 +1,7 @@
 // The calls of the C side: reading, placing and drawing on plain numbers and slices of bytes. include/avarezhu.h declares them, and docs/LAYOUT.md
 // has the layouts of a gradient and of placed stops.
+#![tactic(auto)]
+
 ghost use Rattle.std.specs.Prelude.{◌≤◌, length};
 ghost use Rattle.replies.specs.Handed.{Handed};
 ghost use Rattle.reader.specs.Reading.{read_of};
