@@ -166,8 +166,7 @@ fn draw_in_room(ramp: &mut [u32], p: Plan, stops: &[u32], l: Line, z: Strip, buf
 }
 
 // `draw_with` twice more, for one table alone each: one of middle size, and the largest. Having one caller, such a copy is inlined all the way into
-// `draw_medium_box` or `draw_large_box`. That makes these too long to be inlined themselves: their 262 KB and 741 KB of stack would otherwise be taken for
-// every small picture, too.
+// `draw_medium_box` or `draw_large_box`.
 fn draw_with_medium(ramp: &mut [u32], p: Plan, stops: &[u32], l: Line, z: Strip, buf: &mut [u8])
     requires { Drawable stops.now l z (length buf.old) × Room p.base (length ramp.old) }
     ensures { buf.new ≡ patched buf.old 0 (strip_of stops.now l z) }
@@ -375,8 +374,9 @@ fn draw_small_box(p: Plan, stops: &[u32], l: Line, z: Strip, buf: &mut [u8])
     }
 }
 
-// With a small table or one of middle size. Only this function takes the stack for the latter, and only the next one that for the largest: each has two
-// callers, so the compiler does not inline it.
+// With a small table or one of middle size. Only this function takes the stack for the latter, and only the next one that for the largest: inlined, they
+// would take it for every small picture, too.
+#[inline(never)]
 fn draw_medium_box(p: Plan, stops: &[u32], l: Line, z: Strip, buf: &mut [u8])
     requires { Drawable stops.now l z (length buf.old) × Planned p medium_table }
     ensures { buf.new ≡ patched buf.old 0 (strip_of stops.now l z) }
@@ -388,7 +388,8 @@ fn draw_medium_box(p: Plan, stops: &[u32], l: Line, z: Strip, buf: &mut [u8])
     }
 }
 
-// With a small or the largest table. A plan for a small one is drawn above; without that branch this would be short enough to be inlined.
+// With a small or the largest table. A plan for a small one is drawn above.
+#[inline(never)]
 fn draw_large_box(p: Plan, stops: &[u32], l: Line, z: Strip, buf: &mut [u8])
     requires { Drawable stops.now l z (length buf.old) × Planned p most_entries }
     ensures { buf.new ≡ patched buf.old 0 (strip_of stops.now l z) }
