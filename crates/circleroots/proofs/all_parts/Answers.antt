@@ -19,7 +19,7 @@ far_part-requires c =
       c.requires.0,
       omega arith,
       omega arith,
-      λ i p q. omega (arith, c.requires.1.least i q, c.if-square-ge-FAR_SQUARE.true),
+      λ i p q. omega (arith, c.requires.1.least i q),
     )
 
 pub shape_of-before-then-square-ge-FAR_SQUARE : goal.shape_of-before-then-square-ge-FAR_SQUARE

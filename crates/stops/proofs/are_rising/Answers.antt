@@ -68,7 +68,7 @@ loop-i-smaller c = search rules
 pub loop-i-preserved : goal.loop-i-preserved
 loop-i-preserved c =
     let k = looked-at c.before in
-    rising-go (placed_of (list c.before)) _ _ _ k.0 k.1 c.if-z-last.false ∙ c.loop-i.invariant
+    rising-go (placed_of (list c.before)) _ _ _ k.0 k.1 (search rules) ∙ c.loop-i.invariant
 
 pub returns-else-i-n : goal.returns-else-i-n
 returns-else-i-n c =
