@@ -62,7 +62,7 @@ class Program:
         (self.folder / "crates.txt").write_text("\n".join([*lines, f"probe: {' '.join(sorted(used))} io"]) + "\n")
 
     def run(self, seconds):
-        """Compiles the program and runs it, and answers what it printed, how it ended where it was not by returning, and what rt said."""
+        """Compiles the program and runs it, and answers what it printed, and how it ended where it was not by returning."""
         words = [self.toolchain.rt, "try", "--seconds", str(seconds), "--steps", "20000000"]
         ran = subprocess.run(words, cwd=self.folder / "crates" / "probe", capture_output=True, stdin=subprocess.DEVNULL)
         said = ran.stderr.decode(errors="replace")
