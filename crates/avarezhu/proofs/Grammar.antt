@@ -13,7 +13,7 @@ use Rattle.picture.specs.Picture.{padded, buffer}
 use Rattle.replies.specs.Replies.{done, no_room, given, ◌or_else◌}
 use Rattle.replies.specs.Handed.{Handed}
 use Rattle.gradient.specs.declared.Gradient.{Gradient}
-use Rattle.reader.specs.declared.Reading.{Reading}
+use Rattle.reader.specs.Reading.{Reading}
 use Rattle.reader.specs.Reading.{read_of}
 use Rattle.grammar.specs.Answers.{Answers}
 use Rattle.grammar.proofs.Answers.{answers}

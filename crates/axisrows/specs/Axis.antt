@@ -3,10 +3,6 @@
 use Rattle.std.specs.Prelude.{Bool, true, false, List, ℕ, ◌-◌, get_or}
 use Rattle.words.specs.Word.{word_bytes}
 
--- the pixels of a small box's side, at most
-abbrev pub small_side : ℕ
-small_side = 256
-
 -- pixel i of n, counted from the side that the line starts at, which is the last pixel's where the line goes back
 abbrev pub from_start : Bool → ℕ → ℕ → ℕ
 from_start true n i = n - 1 - i

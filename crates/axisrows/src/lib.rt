@@ -1,11 +1,11 @@
 // Draws the rows of a picture along a horizontal or a vertical line, from a table with one entry for each column or each row.
 #![tactic(auto)]
 
-ghost use Rattle.std.specs.Prelude.{◌≡◌, List, ℕ, ◌+◌, ◌-◌, ◌*◌, ◌≤◌, ◌<◌, length};
+ghost use Rattle.std.specs.Prelude.{◌≡◌, List, ℕ, ◌+◌, ◌-◌, ◌*◌, ◌≤◌, ◌<◌, length, get_or};
 ghost use Rattle.picture.specs.Picture.{row, copies, strip, patched};
 ghost use Rattle.words.specs.Word.{word_bytes};
 ghost use Rattle.rows.specs.Pixel.{Drawable, strip_of};
-ghost use Rattle.axisrows.specs.Axis.{small_side, from_start, first_of, by_column, by_row};
+ghost use Rattle.axisrows.specs.Axis.{from_start, first_of, by_column, by_row};
 
 use line::{Line, SignedVector};
 use rows::Strip;
@@ -30,15 +30,16 @@ const BLOCK_BYTES: usize = 2048;
 
 // ---- entries
 
-// Which entry pixel i of n has: entries are counted from the side that the line starts at.
-fn from_start(i: usize, n: usize, back: bool) -> usize
-    requires { i < n }
-    ensures { (result ≡ from_start back n i) × (result < n) }
-{
-    if back { n - 1 - i } else { i }
+// Entries of n columns or rows, counted from the side that the line starts at, which is the last one's where the line goes back.
+#[derive(Clone, Copy)]
+struct Entries<'a> {
+    table: &'a [u32],
+    back: bool,
+    n: usize,
+    ghost held: { n ≤ length table.now },
 }
 
-// The first of the rows from a up to b of h, counted from the side that the line starts at.
+// The first of the rows from a up to b of h, counted likewise.
 fn first(a: usize, b: usize, h: usize, back: bool) -> usize
     requires { (a < b) × (b ≤ h) }
     ensures { (result ≡ first_of back h a b) × (result ≤ h) }
@@ -46,52 +47,10 @@ fn first(a: usize, b: usize, h: usize, back: bool) -> usize
     if back { h - b } else { a }
 }
 
-fn entries() -> [u32; LARGEST_SIDE] {
-    [0u32; LARGEST_SIDE]
-}
-
-fn few_entries() -> [u32; SMALL_SIDE] {
-    [0u32; SMALL_SIDE]
-}
-
-// ---- a horizontal line: every row is the same
-
-fn row_bytes() -> [u8; ROW_BYTES] {
-    [0u8; ROW_BYTES]
-}
-
-fn block_bytes() -> [u8; BLOCK_BYTES] {
-    [0u8; BLOCK_BYTES]
-}
-
-// Writes a row from `at` on, each pixel from its entry.
-fn write_row(t: &[u32], back: bool, w: usize, bytes: &mut [u8], at: usize)
-    requires { (w ≤ length t.now) × (at + 4 * w ≤ length bytes.old) }
-    ensures { bytes.new ≡ patched bytes.old at (row (by_column t.now back w) w 0) }
+fn zeros<T: Copy + Default, const N: usize>() -> [T; N]
+    ensures { length result ≡ N }
 {
-    let mut i = 0;
-    let mut o = at;
-    while i < w {
-        let k = from_start(i, w, back);
-        words::put_word(bytes, o, t[k]);
-        o += 4;
-        i += 1;
-    }
-}
-
-// Writes k such rows, one after the other.
-fn write_rows(t: &[u32], back: bool, w: usize, bytes: &mut [u8], k: usize)
-    requires { (w ≤ length t.now) × (4 * w * k ≤ length bytes.old) }
-    ensures { bytes.new ≡ patched bytes.old 0 (copies k (row (by_column t.now back w) w 0)) }
-{
-    let m = 4 * w;
-    let mut j = 0;
-    let mut o = 0;
-    while j < k {
-        write_row(t, back, w, bytes, o);
-        o += m;
-        j += 1;
-    }
+    [T::default(); N]
 }
 
 // Fills the buffer's start with n copies of `bytes`.
@@ -99,12 +58,8 @@ fn copy_times(buf: &mut [u8], bytes: &[u8], n: usize)
     requires { length bytes.now * n ≤ length buf.old }
     ensures { buf.new ≡ patched buf.old 0 (copies n bytes.now) }
 {
-    let mut j = 0;
-    let mut o = 0;
-    while j < n {
-        picture::copy_in(buf, o, bytes);
-        o += bytes.len();
-        j += 1;
+    for j in 0..n {
+        picture::copy_in(buf, bytes.len() * j, bytes);
     }
 }
 
@@ -119,30 +74,70 @@ fn copy_blocks(buf: &mut [u8], block: &[u8], k: usize, m: usize, n: usize)
     picture::copy_in(buf, o, &block[..rest]);
 }
 
-// Draws n rows of a small box, in blocks. Here and below the bytes are copied from a local array, so that a compiler knows that it does not overlap the
-// buffer and calls the C library's copy.
-fn rows_small(t: &[u32], back: bool, w: usize, n: usize, buf: &mut [u8])
-    requires { (w ≤ length t.now) × (0 < w) × (w ≤ small_side) × (0 < n) × (4 * w * n ≤ length buf.old) }
-    ensures { buf.new ≡ patched buf.old 0 (copies n (row (by_column t.now back w) w 0)) }
+// Writes a word n times from `at` on.
+fn fill_words(buf: &mut [u8], at: usize, n: usize, c: u32)
+    requires { at + 4 * n ≤ length buf.old }
+    ensures { buf.new ≡ patched buf.old at (copies n (word_bytes c)) }
 {
-    let mut block = block_bytes();
-    let m = 4 * w;
-    let k = picture::at_most(BLOCK_BYTES / m, n);
-    let size = m * k;
-    write_rows(t, back, w, &mut block[..size], k);
-    copy_blocks(buf, &block[..size], k, m, n);
+    for i in 0..n {
+        words::put_word(buf, at + 4 * i, c);
+    }
 }
 
-// Draws n rows of any box, one by one.
-fn rows_large(t: &[u32], back: bool, w: usize, n: usize, buf: &mut [u8])
-    requires { (w ≤ length t.now) × (w ≤ 2048) × (4 * w * n ≤ length buf.old) }
-    ensures { buf.new ≡ patched buf.old 0 (copies n (row (by_column t.now back w) w 0)) }
-{
-    let mut bytes = row_bytes();
-    let m = 4 * w;
-    write_row(t, back, w, &mut bytes[..m], 0);
-    copy_times(buf, &bytes[..m], n);
+impl Entries<'_> {
+    // The entry of column or row i.
+    fn entry_of(self, i: usize) -> u32
+        requires { i < self.n }
+        ensures { result ≡ get_or self.entry.table.now (from_start self.entry.back self.entry.n i) 0 }
+    {
+        self.table[if self.back { self.n - 1 - i } else { i }]
+    }
+
+    // Writes a row of n columns from `at` on, each pixel from its entry.
+    fn write_row(self, bytes: &mut [u8], at: usize)
+        requires { at + 4 * self.n ≤ length bytes.old }
+        ensures { bytes.new ≡ patched bytes.old at (row (by_column self.entry.table.now self.entry.back self.entry.n) self.entry.n 0) }
+    {
+        for i in 0..self.n {
+            words::put_word(bytes, at + 4 * i, self.entry_of(i));
+        }
+    }
+
+    // Writes k such rows, one after the other.
+    fn write_rows(self, bytes: &mut [u8], k: usize)
+        requires { 4 * self.n * k ≤ length bytes.old }
+        ensures { bytes.new ≡ patched bytes.old 0 (copies k (row (by_column self.entry.table.now self.entry.back self.entry.n) self.entry.n 0)) }
+    {
+        for j in 0..k {
+            self.write_row(bytes, 4 * self.n * j);
+        }
+    }
+
+    // Draws h such rows from a block of k of them, which has N bytes of room. The bytes are copied from a local array, so that a compiler knows that it
+    // does not overlap the buffer and calls the C library's copy.
+    fn draw_rows<const N: usize>(self, k: usize, h: usize, buf: &mut [u8])
+        requires { (0 < k) × (4 * self.n * k ≤ N) × (N ≤ ROW_BYTES) × (4 * self.n * h ≤ length buf.old) }
+        ensures { buf.new ≡ patched buf.old 0 (copies h (row (by_column self.entry.table.now self.entry.back self.entry.n) self.entry.n 0)) }
+    {
+        let mut block = zeros::<u8, N>();
+        let m = 4 * self.n;
+        let size = m * k;
+        self.write_rows(&mut block[..size], k);
+        copy_blocks(buf, &block[..size], k, m, h);
+    }
+
+    // Draws the rows from a up to b, w pixels wide, each from its entry.
+    fn draw_strip(self, w: usize, a: usize, b: usize, buf: &mut [u8])
+        requires { (a ≤ b) × (self.n ≡ b - a) × (w ≤ 2048) × (4 * w * (b - a) ≤ length buf.old) }
+        ensures { buf.new ≡ patched buf.old 0 (strip (by_row self.entry.table.now self.entry.back a b) w a b) }
+    {
+        for j in a..b {
+            fill_words(buf, 4 * w * (j - a), w, self.entry_of(j - a));
+        }
+    }
 }
+
+// ---- a horizontal line: every row is the same
 
 // Fills a table for the columns and draws the rows.
 fn horizontal_with(t: &mut [u32], ramp: &[u32], v: SignedVector, z: Strip, buf: &mut [u8])
@@ -150,31 +145,27 @@ fn horizontal_with(t: &mut [u32], ramp: &[u32], v: SignedVector, z: Strip, buf: 
     ensures { buf.new ≡ patched buf.old 0 (strip_of ramp.now (Line.Straight v) z) }
 {
     ramp::fill_spaced(t, ramp, MIDDLE, PIXEL);
+    let entries = Entries {
+        table: t,
+        back: v.left,
+        n: z.w,
+    };
+    let n = z.b - z.a;
     if z.w <= SMALL_SIDE {
-        rows_small(t, v.left, z.w, z.b - z.a, buf);
+        let k = n.min(BLOCK_BYTES / (4 * z.w));
+        entries.draw_rows::<BLOCK_BYTES>(k, n, buf);
     } else {
-        rows_large(t, v.left, z.w, z.b - z.a, buf);
+        entries.draw_rows::<ROW_BYTES>(1, n, buf);
     }
 }
 
-// Draws a strip of a narrow box along a horizontal line.
-fn horizontal_small(ramp: &[u32], v: SignedVector, z: Strip, buf: &mut [u8])
-    requires { Drawable ramp.now (Line.Straight v) z (length buf.old) × (v.y ≡ 0) × (z.w ≤ small_side) }
+// Draws a strip of a box of up to N pixels in width along a horizontal line.
+fn horizontal_to<const N: usize>(ramp: &[u32], v: SignedVector, z: Strip, buf: &mut [u8])
+    requires { Drawable ramp.now (Line.Straight v) z (length buf.old) × (v.y ≡ 0) × (z.w ≤ N) × (N ≤ LARGEST_SIDE) }
     ensures { buf.new ≡ patched buf.old 0 (strip_of ramp.now (Line.Straight v) z) }
 {
-    let mut t = few_entries();
-    let n = z.w;
-    horizontal_with(&mut t[..n], ramp, v, z, buf);
-}
-
-// The same in a box of any width.
-fn horizontal_large(ramp: &[u32], v: SignedVector, z: Strip, buf: &mut [u8])
-    requires { Drawable ramp.now (Line.Straight v) z (length buf.old) × (v.y ≡ 0) }
-    ensures { buf.new ≡ patched buf.old 0 (strip_of ramp.now (Line.Straight v) z) }
-{
-    let mut t = entries();
-    let n = z.w;
-    horizontal_with(&mut t[..n], ramp, v, z, buf);
+    let mut t = zeros::<u32, N>();
+    horizontal_with(&mut t[..z.w], ramp, v, z, buf);
 }
 
 // Draws a strip along a horizontal line, from the buffer's start.
@@ -183,43 +174,13 @@ pub fn draw_horizontal(ramp: &[u32], v: SignedVector, z: Strip, buf: &mut [u8])
     ensures { buf.new ≡ patched buf.old 0 (strip_of ramp.now (Line.Straight v) z) }
 {
     if z.w <= SMALL_SIDE {
-        horizontal_small(ramp, v, z, buf);
+        horizontal_to::<SMALL_SIDE>(ramp, v, z, buf);
     } else {
-        horizontal_large(ramp, v, z, buf);
+        horizontal_to::<LARGEST_SIDE>(ramp, v, z, buf);
     }
 }
 
 // ---- a vertical line: all pixels of a row are the same
-
-// Writes a word n times from `at` on.
-fn fill_words(buf: &mut [u8], at: usize, n: usize, c: u32)
-    requires { at + 4 * n ≤ length buf.old }
-    ensures { buf.new ≡ patched buf.old at (copies n (word_bytes c)) }
-{
-    let mut i = 0;
-    let mut o = at;
-    while i < n {
-        words::put_word(buf, o, c);
-        o += 4;
-        i += 1;
-    }
-}
-
-// Draws the rows from a up to b, each from its entry.
-fn draw_entries(t: &[u32], back: bool, w: usize, a: usize, b: usize, buf: &mut [u8])
-    requires { (a ≤ b) × (b - a ≤ length t.now) × (w ≤ 2048) × (4 * w * (b - a) ≤ length buf.old) }
-    ensures { buf.new ≡ patched buf.old 0 (strip (by_row t.now back a b) w a b) }
-{
-    let n = 4 * w;
-    let mut j = a;
-    let mut o = 0;
-    while j < b {
-        let k = from_start(j - a, b - a, back);
-        fill_words(buf, o, w, t[k]);
-        o += n;
-        j += 1;
-    }
-}
 
 // Fills a table for the rows and draws them.
 fn vertical_with(t: &mut [u32], ramp: &[u32], v: SignedVector, z: Strip, buf: &mut [u8])
@@ -228,25 +189,20 @@ fn vertical_with(t: &mut [u32], ramp: &[u32], v: SignedVector, z: Strip, buf: &m
 {
     let base = MIDDLE + PIXEL * (first(z.a, z.b, z.h, v.up) as u32);
     ramp::fill_spaced(t, ramp, base, PIXEL);
-    draw_entries(t, v.up, z.w, z.a, z.b, buf);
+    let entries = Entries {
+        table: t,
+        back: v.up,
+        n: z.b - z.a,
+    };
+    entries.draw_strip(z.w, z.a, z.b, buf);
 }
 
-// Draws a strip of few rows along a vertical line.
-fn vertical_small(ramp: &[u32], v: SignedVector, z: Strip, buf: &mut [u8])
-    requires { Drawable ramp.now (Line.Straight v) z (length buf.old) × (v.x ≡ 0) × (z.b - z.a ≤ small_side) }
+// Draws a strip of up to N rows along a vertical line.
+fn vertical_to<const N: usize>(ramp: &[u32], v: SignedVector, z: Strip, buf: &mut [u8])
+    requires { Drawable ramp.now (Line.Straight v) z (length buf.old) × (v.x ≡ 0) × (z.b - z.a ≤ N) × (N ≤ LARGEST_SIDE) }
     ensures { buf.new ≡ patched buf.old 0 (strip_of ramp.now (Line.Straight v) z) }
 {
-    let mut t = few_entries();
-    let n = z.b - z.a;
-    vertical_with(&mut t[..n], ramp, v, z, buf);
-}
-
-// The same for any number of rows.
-fn vertical_large(ramp: &[u32], v: SignedVector, z: Strip, buf: &mut [u8])
-    requires { Drawable ramp.now (Line.Straight v) z (length buf.old) × (v.x ≡ 0) }
-    ensures { buf.new ≡ patched buf.old 0 (strip_of ramp.now (Line.Straight v) z) }
-{
-    let mut t = entries();
+    let mut t = zeros::<u32, N>();
     let n = z.b - z.a;
     vertical_with(&mut t[..n], ramp, v, z, buf);
 }
@@ -257,8 +213,8 @@ pub fn draw_vertical(ramp: &[u32], v: SignedVector, z: Strip, buf: &mut [u8])
     ensures { buf.new ≡ patched buf.old 0 (strip_of ramp.now (Line.Straight v) z) }
 {
     if z.b - z.a <= SMALL_SIDE {
-        vertical_small(ramp, v, z, buf);
+        vertical_to::<SMALL_SIDE>(ramp, v, z, buf);
     } else {
-        vertical_large(ramp, v, z, buf);
+        vertical_to::<LARGEST_SIDE>(ramp, v, z, buf);
     }
 }

@@ -2,178 +2,190 @@
 // what the compiler made of them. The numbers come from fixed seeds, so every run draws the same pictures.
 #![tactic(auto)]
 
-ghost use Rattle.std.specs.Prelude.{◌<◌, length};
+ghost use Rattle.std.specs.Prelude.{◌<◌};
 ghost use Rattle.gradient.specs.Check.{Accepted};
 ghost use Rattle.line.specs.Box.{Box};
 ghost use Rattle.color.specs.Numbers.{Lendable};
 ghost use Rattle.rows.specs.Pixel.{Placed, Rows};
 
+use chance::{Kind, Sort};
 use gradient::Gradient;
 use line::Line;
+use replies::Refusal;
 use rows::Strip;
+use std::fmt;
 use stops::PlacedStops;
 use tally::Tally;
 
+// The bytes of the largest picture that is drawn.
+const BYTES: usize = 262144;
+
 // ---- drawing both ways
 
-fn no_ramp() -> [u32; ramp::HEAD] {
-    [0u32; ramp::HEAD]
+// A picture by the fast code, and by the simple loop.
+#[derive(Drop)]
+struct Pictures {
+    fast: [u8; BYTES],
+    plain: [u8; BYTES],
 }
 
-// Tells whether all pixels have one color.
-fn draw_stops(
-    l: Line,
-    p: PlacedStops,
-    repeating: bool,
-    z: Strip,
-    fast: &mut [u8],
-    plain: &mut [u8],
-) -> bool
-    requires { Placed l z.w z.h × Lendable p × (1 < p.count) × Rows z (length fast.old) × Rows z (length plain.old) }
-{
-    let mut stops = no_ramp();
-    ramp::set_stops(&mut stops, p, repeating);
-    strips::draw(&stops, l, z, fast);
-    rows::draw_each(&stops, l, z, plain);
-    ramp::is_one_color(&stops)
-}
+impl Pictures {
+    // Tells whether all pixels have one color.
+    fn draw_stops(&mut self, l: Line, p: PlacedStops, repeating: bool, z: Strip) -> bool
+        requires { Placed l z.w z.h × Lendable p × (1 < p.count) × Rows z BYTES }
+    {
+        let mut stops = [0u32; ramp::HEAD];
+        ramp::set_stops(&mut stops, p, repeating);
+        strips::draw(&stops, l, z, &mut self.fast);
+        rows::draw_each(&stops, l, z, &mut self.plain);
+        ramp::is_one_color(&stops)
+    }
 
-fn draw_gradient(g: Gradient, z: Strip, fast: &mut [u8], plain: &mut [u8]) -> bool
-    requires { Box z.w z.h × Accepted g × Rows z (length fast.old) × Rows z (length plain.old) }
-{
-    let shape = g.shape;
-    let l = line::line_of(shape, z.w, z.h);
-    let p = placing::place_in_box(g, z.w, z.h);
-    draw_stops(l, p, g.repeating, z, fast, plain)
-}
+    fn draw(&mut self, g: Gradient, z: Strip) -> bool
+        requires { Box z.w z.h × Accepted g × Rows z BYTES }
+    {
+        let l = line::line_of(g.shape, z.w, z.h);
+        let p = placing::place_in_box(g, z.w, z.h);
+        self.draw_stops(l, p, g.repeating, z)
+    }
 
-// Draws rows a up to b into both buffers, and compares all of their bytes.
-fn compare(g: Gradient, z: Strip, fast: &mut [u8], plain: &mut [u8]) -> Tally
-    requires { Box z.w z.h × Accepted g × Rows z (length fast.old) × Rows z (length plain.old) }
-{
-    tally::fill(fast);
-    tally::fill(plain);
-    let even = draw_gradient(g, z, fast, plain);
-    let part = if z.b - z.a < z.h { 1 } else { 0 };
-    let n = if words::same(fast, plain) { 0 } else { 1 };
-    Tally {
-        pictures: 1,
-        parts: part,
-        repeated: if g.repeating { 1 } else { 0 },
-        even: if even { 1 } else { 0 },
-        pixels: (z.w * (z.b - z.a)) as u64,
-        different: n,
-        refused: 0,
+    // Draws a strip into both buffers, and compares all of their bytes.
+    fn compare(&mut self, g: Gradient, z: Strip) -> Tally
+        requires { Box z.w z.h × Accepted g × Rows z BYTES }
+    {
+        tally::fill(&mut self.fast);
+        tally::fill(&mut self.plain);
+        let even = self.draw(g, z);
+        Tally {
+            pictures: 1,
+            parts: (z.b - z.a < z.h) as u64,
+            repeated: g.repeating as u64,
+            even: even as u64,
+            pixels: (z.w * (z.b - z.a)) as u64,
+            different: (self.fast != self.plain) as u64,
+            refused: 0,
+        }
     }
-}
 
-// Rows a up to b, if they are rows of the box and the buffers hold them.
-fn try_rows(
-    g: Gradient,
-    w: usize,
-    h: usize,
-    a: usize,
-    b: usize,
-    fast: &mut [u8],
-    plain: &mut [u8],
-) -> Tally
-    requires { Box w h × Accepted g }
-{
-    if b <= a || h < b {
-        return tally::refusal();
+    // A strip, if its rows are rows of the box and the buffers hold them.
+    fn try_strip(&mut self, g: Gradient, z: Strip) -> Result<Tally, Refusal>
+        requires { Box z.w z.h × Accepted g }
+    {
+        if z.b <= z.a || z.h < z.b {
+            return Err(Refusal::BadRows);
+        }
+        if BYTES < 4 * z.w * (z.b - z.a) {
+            return Err(Refusal::NoRoom);
+        }
+        Ok(self.compare(g, z))
     }
-    let n = 4 * w * (b - a);
-    if fast.len() < n || plain.len() < n {
-        return tally::refusal();
-    }
-    compare(g, Strip { w, h, a, b }, fast, plain)
-}
 
-// One picture of a kind of shape in a sort of box.
-fn try_picture(kind: u32, sort: u32, seed: u32, fast: &mut [u8], plain: &mut [u8]) -> Tally {
-    let g = chance::gradient_of(kind, seed);
-    let s = chance::area_of(sort, seed);
-    let w = s.width;
-    let h = s.height;
-    if !replies::box_in(w, h) {
-        return tally::refusal();
+    // One picture of a kind of shape in a sort of box.
+    fn try_picture(&mut self, kind: Kind, sort: Sort, seed: u32) -> Result<Tally, Refusal> {
+        let g = chance::gradient_of(kind, seed);
+        let area = sort.area(seed);
+        let w = area.width;
+        let h = area.height;
+        replies::box_reply(w, h)?;
+        gradient::check(g)?;
+        let rows = area.rows(seed);
+        let z = Strip {
+            w,
+            h,
+            a: rows.start,
+            b: rows.end,
+        };
+        self.try_strip(g, z)
     }
-    if gradient::check(g) != replies::DONE {
-        return tally::refusal();
-    }
-    let k = chance::rows_of(seed, w, h);
-    let a = k.first;
-    let b = k.end;
-    try_rows(g, w, h, a, b, fast, plain)
 }
 
 // ---- the report
 
-// Draws n pictures of a kind of shape, or of each kind in turn if it is 10.
-fn draw_many(kind: u32, sort: u32, n: u32, fast: &mut [u8], plain: &mut [u8]) -> Tally {
-    let seed = chance::seed_of(kind, sort);
-    let mut t = tally::none();
-    let mut k: u32 = 0;
-    while k < n {
-        let shape = if kind == 10 { k % 10 } else { kind };
-        let one = try_picture(shape, sort, chance::seed_of(seed, k), fast, plain);
-        t = tally::sum(t, one);
-        k += 1;
+// So many pictures of a kind of shape, or of each kind in turn, in a sort of box.
+#[derive(Clone, Copy)]
+struct Batch {
+    kind: Option<Kind>,
+    sort: Sort,
+    count: u32,
+}
+
+impl Batch {
+    fn seed(self) -> u32 {
+        let kind = match self.kind {
+            Some(kind) => kind as u32,
+            None => 10,
+        };
+        chance::seed_of(kind, self.sort as u32)
     }
-    t
-}
 
-fn report(
-    rt: &impl Print,
-    kind: u32,
-    sort: u32,
-    n: u32,
-    fast: &mut [u8],
-    plain: &mut [u8],
-) -> Tally {
-    let t = draw_many(kind, sort, n, fast, plain);
-    tally::say_shape(rt, kind);
-    tally::say_area(rt, sort);
-    tally::say_tally(rt, t);
-    t
-}
-
-fn draw_shapes(rt: &impl Print, fast: &mut [u8], plain: &mut [u8]) -> Tally {
-    let mut t = tally::none();
-    let mut kind: u32 = 0;
-    while kind < 10 {
-        let one = report(rt, kind, 0, 600, fast, plain);
-        t = tally::sum(t, one);
-        kind += 1;
+    // The kind of its picture k.
+    fn kind_of(self, k: u32) -> Kind {
+        self.kind.unwrap_or(Kind::ALL[k as usize % 10])
     }
-    t
-}
 
-fn draw_areas(rt: &impl Print, fast: &mut [u8], plain: &mut [u8]) -> Tally {
-    let mut t = tally::none();
-    let mut sort: u32 = 1;
-    while sort < 14 {
-        let n = if sort < 9 { 300 } else { 60 };
-        let one = report(rt, 10, sort, n, fast, plain);
-        t = tally::sum(t, one);
-        sort += 1;
+    fn draw(self, pictures: &mut Pictures) -> Tally {
+        let seed = self.seed();
+        let mut tally = Tally::default();
+        for k in 0..self.count {
+            let one = pictures.try_picture(self.kind_of(k), self.sort, chance::seed_of(seed, k));
+            tally += one.unwrap_or(Tally::refusal());
+        }
+        tally
     }
-    t
+
+    // Draws the pictures, and prints a line about them.
+    fn report(self, rt: &impl Print, pictures: &mut Pictures) -> Tally {
+        let tally = self.draw(pictures);
+        let _ = println!(rt; "{self}: {tally}");
+        tally
+    }
 }
 
-fn buffer() -> [u8; 262144] {
-    [0u8; 262144]
+impl fmt::Display for Batch {
+    fn fmt<W: fmt::Write>(&self, f: &mut fmt::Formatter<W>) -> fmt::Result {
+        match self.kind {
+            Some(kind) => write!(f, "{kind}, {}", self.sort),
+            None => write!(f, "each of these, {}", self.sort),
+        }
+    }
+}
+
+// Pictures of each kind of shape.
+fn draw_kinds(rt: &impl Print, pictures: &mut Pictures) -> Tally {
+    let mut tally = Tally::default();
+    for kind in Kind::ALL {
+        let batch = Batch {
+            kind: Some(kind),
+            sort: Sort::Small,
+            count: 600,
+        };
+        tally += batch.report(rt, pictures);
+    }
+    tally
+}
+
+// So many pictures in each of some sorts of box.
+fn draw_sorts(rt: &impl Print, sorts: &[Sort], count: u32, pictures: &mut Pictures) -> Tally {
+    let mut tally = Tally::default();
+    for sort in sorts {
+        let batch = Batch {
+            kind: None,
+            sort: *sort,
+            count,
+        };
+        tally += batch.report(rt, pictures);
+    }
+    tally
 }
 
 fn main(rt: HostRuntime) {
-    let mut fast = buffer();
-    let mut plain = buffer();
-    let shapes = draw_shapes(&rt, &mut fast, &mut plain);
-    let areas = draw_areas(&rt, &mut fast, &mut plain);
-    let all = tally::sum(shapes, areas);
-    tally::say(&rt, b"in all");
-    tally::say_tally(&rt, all);
-    tally::say(&rt, b"refused: ");
-    tally::say_number(&rt, all.refused);
-    tally::say(&rt, b"\n");
+    let mut pictures = Pictures {
+        fast: [0u8; BYTES],
+        plain: [0u8; BYTES],
+    };
+    let mut all = draw_kinds(&rt, &mut pictures);
+    all += draw_sorts(&rt, &Sort::ALL[1..9], 300, &mut pictures);
+    all += draw_sorts(&rt, &Sort::ALL[9..], 60, &mut pictures);
+    let _ = println!(rt; "in all: {all}");
+    let _ = println!(rt; "refused: {}", all.refused);
 }

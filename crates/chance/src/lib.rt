@@ -1,35 +1,26 @@
 // Random numbers from seeds, and random gradients, boxes and rows of boxes made of them. A seed gives the same ones each time.
 #![tactic(auto)]
 
-ghost use Rattle.std.specs.Prelude.{◌<◌};
+ghost use Rattle.std.specs.Prelude.{◌<◌, ◌≤◌, ◌^◌, length};
 
 use gradient::{
     Color, Coordinate, Direction, Extent, Gradient, Horizontal, Position, Shape, Side, Size, Stop,
     Vertical,
 };
+use std::fmt;
+use std::ops::Range;
 
-// A box, in pixels.
-#[derive(Clone, Copy)]
-pub struct Area {
-    pub width: usize,
-    pub height: usize,
-}
-
-// Rows of a box, from the first up to the end.
-#[derive(Clone, Copy)]
-pub struct Rows {
-    pub first: usize,
-    pub end: usize,
-}
+// The most pixels of a picture that the buffers hold.
+const MOST_PIXELS: usize = 65536;
 
 // ---- random numbers
 
 fn folded(x: u32) -> u32 {
-    x ^ (x / 65536)
+    x ^ (x >> 16)
 }
 
 fn stir(x: u32) -> u32 {
-    ((folded(x) as u64) * 73244475 % 4294967296) as u32
+    folded(x).wrapping_mul(73244475)
 }
 
 fn scramble(x: u32) -> u32 {
@@ -38,7 +29,7 @@ fn scramble(x: u32) -> u32 {
 
 // A seed made of two.
 pub fn seed_of(a: u32, b: u32) -> u32 {
-    scramble(a ^ scramble(std::num::wrapping_add_u32(b, 1)))
+    scramble(a ^ scramble(b.wrapping_add(1)))
 }
 
 // The random number below n that a seed has under a name.
@@ -49,44 +40,107 @@ fn roll(seed: u32, name: u32, n: u32) -> u32
     seed_of(seed, name) % n
 }
 
-fn minus(x: u32) -> i32 {
-    words::signed(std::num::wrapping_sub_u32(0, x))
+// The one of `all` that a seed has under a name.
+fn pick<T: Copy>(seed: u32, name: u32, all: &[T]) -> T
+    requires { (0 < length all.now) × (length all.now < 2 ^ 32) }
+{
+    all[roll(seed, name, all.len() as u32) as usize]
 }
 
 // x or -x.
 fn either_sign(seed: u32, x: u32) -> i32 {
+    let n = x.cast_signed();
     if roll(seed, 1000, 2) == 0 {
-        words::signed(x)
+        n
     } else {
-        minus(x)
+        n.wrapping_neg()
     }
 }
 
 // ---- random shapes
 
-fn level(seed: u32) -> Shape {
-    if roll(seed, 0, 2) == 0 {
-        Shape::Linear(Direction::Side(Side::Right))
-    } else {
-        Shape::Linear(Direction::Side(Side::Left))
+// A kind of shape.
+#[derive(Clone, Copy, Debug, PartialEq, Eq)]
+pub enum Kind {
+    Level,
+    Upright,
+    Corner,
+    Diagonal,
+    Angle,
+    Centered,
+    Halfway,
+    Aside,
+    Anywhere,
+    Tiny,
+}
+
+impl Kind {
+    // All kinds, in the order of their numbers.
+    pub const ALL: [Kind; 10] = [
+        Kind::Level,
+        Kind::Upright,
+        Kind::Corner,
+        Kind::Diagonal,
+        Kind::Angle,
+        Kind::Centered,
+        Kind::Halfway,
+        Kind::Aside,
+        Kind::Anywhere,
+        Kind::Tiny,
+    ];
+
+    fn shape(self, seed: u32) -> Shape {
+        match self {
+            Kind::Level => side(seed, &[Side::Right, Side::Left]),
+            Kind::Upright => side(seed, &[Side::Bottom, Side::Top]),
+            Kind::Corner => corner(seed),
+            Kind::Diagonal => diagonal(seed),
+            Kind::Angle => angle(seed),
+            Kind::Centered => centered(seed),
+            Kind::Halfway => halfway(seed),
+            Kind::Aside => aside(seed),
+            Kind::Anywhere => anywhere(seed),
+            Kind::Tiny => tiny(seed),
+        }
     }
 }
 
-fn upright(seed: u32) -> Shape {
-    if roll(seed, 0, 2) == 0 {
-        Shape::Linear(Direction::Side(Side::Bottom))
-    } else {
-        Shape::Linear(Direction::Side(Side::Top))
+impl fmt::Display for Kind {
+    fn fmt<W: fmt::Write>(&self, f: &mut fmt::Formatter<W>) -> fmt::Result {
+        f.write_str(match self {
+            Kind::Level => "to right, to left",
+            Kind::Upright => "to bottom, to top",
+            Kind::Corner => "to a corner",
+            Kind::Diagonal => "45deg, 135deg, 225deg, 315deg",
+            Kind::Angle => "any angle",
+            Kind::Centered => "circle at 50% 50%",
+            Kind::Halfway => "circle on half pixels",
+            Kind::Aside => "circle in the box",
+            Kind::Anywhere => "circle at any place, to 8192px and 1000%",
+            Kind::Tiny => "circle of no radius, or less than a pixel",
+        })
     }
+}
+
+// To one of some sides.
+fn side(seed: u32, sides: &[Side]) -> Shape
+    requires { (0 < length sides.now) × (length sides.now < 2 ^ 32) }
+{
+    Shape::Linear(Direction::Side(pick(seed, 0, sides)))
 }
 
 fn corner(seed: u32) -> Shape {
-    match roll(seed, 0, 4) {
-        0 => Shape::Linear(Direction::Corner(Vertical::Top, Horizontal::Left)),
-        1 => Shape::Linear(Direction::Corner(Vertical::Top, Horizontal::Right)),
-        2 => Shape::Linear(Direction::Corner(Vertical::Bottom, Horizontal::Left)),
-        _ => Shape::Linear(Direction::Corner(Vertical::Bottom, Horizontal::Right)),
-    }
+    let (v, h) = pick(
+        seed,
+        0,
+        &[
+            (Vertical::Top, Horizontal::Left),
+            (Vertical::Top, Horizontal::Right),
+            (Vertical::Bottom, Horizontal::Left),
+            (Vertical::Bottom, Horizontal::Right),
+        ],
+    );
+    Shape::Linear(Direction::Corner(v, h))
 }
 
 // 45 degrees and all that is a multiple of 90 degrees from it.
@@ -104,8 +158,8 @@ fn size_of(seed: u32) -> Size {
         1 => Size::Extent(Extent::ClosestCorner),
         2 => Size::Extent(Extent::FarthestSide),
         3 => Size::Extent(Extent::FarthestCorner),
-        4 => Size::Length(words::signed(roll(seed, 11, 100001))),
-        _ => Size::Length(words::signed(roll(seed, 11, 8192001))),
+        4 => Size::Length(roll(seed, 11, 100001).cast_signed()),
+        _ => Size::Length(roll(seed, 11, 8192001).cast_signed()),
     }
 }
 
@@ -122,7 +176,7 @@ fn halfway(seed: u32) -> Shape {
     Shape::Circle(
         size_of(seed),
         Coordinate::Length(either_sign(seed, 500 * roll(seed, 0, 200))),
-        Coordinate::Length(words::signed(500 * roll(seed, 1, 200))),
+        Coordinate::Length((500 * roll(seed, 1, 200)).cast_signed()),
     )
 }
 
@@ -130,8 +184,8 @@ fn halfway(seed: u32) -> Shape {
 fn aside(seed: u32) -> Shape {
     Shape::Circle(
         size_of(seed),
-        Coordinate::Percentage(words::signed(roll(seed, 0, 100001))),
-        Coordinate::Percentage(words::signed(roll(seed, 1, 100001))),
+        Coordinate::Percentage(roll(seed, 0, 100001).cast_signed()),
+        Coordinate::Percentage(roll(seed, 1, 100001).cast_signed()),
     )
 }
 
@@ -151,66 +205,85 @@ fn anywhere(seed: u32) -> Shape {
 
 // Circles of no radius, or less than a pixel.
 fn tiny(seed: u32) -> Shape {
-    let x = Coordinate::Length(words::signed(500 * roll(seed, 0, 100)));
-    let y = Coordinate::Percentage(words::signed(roll(seed, 1, 100001)));
+    let x = Coordinate::Length((500 * roll(seed, 0, 100)).cast_signed());
+    let y = Coordinate::Percentage(roll(seed, 1, 100001).cast_signed());
     match roll(seed, 2, 3) {
         0 => Shape::Circle(Size::Extent(Extent::ClosestSide), x, Coordinate::Length(0)),
         1 => Shape::Circle(Size::Length(0), x, y),
-        _ => Shape::Circle(Size::Length(words::signed(roll(seed, 3, 1000))), x, y),
-    }
-}
-
-fn shape_of(kind: u32, seed: u32) -> Shape {
-    match kind {
-        0 => level(seed),
-        1 => upright(seed),
-        2 => corner(seed),
-        3 => diagonal(seed),
-        4 => angle(seed),
-        5 => centered(seed),
-        6 => halfway(seed),
-        7 => aside(seed),
-        8 => anywhere(seed),
-        _ => tiny(seed),
+        _ => Shape::Circle(Size::Length(roll(seed, 3, 1000).cast_signed()), x, y),
     }
 }
 
 // ---- random stops
+
+// Where a stop stands.
+#[derive(Clone, Copy, Debug, PartialEq, Eq)]
+enum Style {
+    // Nowhere.
+    Auto,
+    // Anywhere on the line.
+    Percentage,
+    // Often equal.
+    Quarter,
+    Length,
+    // Within 3px.
+    Near,
+    FarLength,
+    FarPercentage,
+    // Any of those before, for each stop anew.
+    Mixed,
+    // Within a few units.
+    Units,
+}
+
+const STYLES: [Style; 9] = [
+    Style::Auto,
+    Style::Percentage,
+    Style::Quarter,
+    Style::Length,
+    Style::Near,
+    Style::FarLength,
+    Style::FarPercentage,
+    Style::Mixed,
+    Style::Units,
+];
 
 fn byte(seed: u32, name: u32) -> u8 {
     (seed_of(seed, name) % 256) as u8
 }
 
 fn color_of(opaque: bool, seed: u32) -> Color {
-    let alpha = if opaque { 255 } else { byte(seed, 23) };
     Color {
         red: byte(seed, 20),
         green: byte(seed, 21),
         blue: byte(seed, 22),
-        alpha: alpha,
+        alpha: if opaque { 255 } else { byte(seed, 23) },
     }
 }
 
-// A position in one of the styles: none, anywhere on the line, often equal, in px, within 3px, far away, and, as style 8, within a few units.
-fn position_of(style: u32, seed: u32) -> Position {
+fn position_of(style: Style, seed: u32) -> Position {
     match style {
-        0 => Position::Auto,
-        1 => Position::Percentage(words::signed(roll(seed, 30, 100001))),
-        2 => Position::Percentage(either_sign(seed, 25000 * roll(seed, 30, 6))),
-        3 => Position::Length(either_sign(seed, roll(seed, 30, 150000))),
-        4 => Position::Length(words::signed(roll(seed, 30, 3000))),
-        5 => Position::Length(either_sign(seed, roll(seed, 30, 8192001))),
-        8 => Position::Length(words::signed(roll(seed, 30, 80))),
-        _ => Position::Percentage(either_sign(seed, roll(seed, 30, 1000001))),
+        Style::Auto => Position::Auto,
+        Style::Percentage => Position::Percentage(roll(seed, 30, 100001).cast_signed()),
+        Style::Quarter => Position::Percentage(either_sign(seed, 25000 * roll(seed, 30, 6))),
+        Style::Length => Position::Length(either_sign(seed, roll(seed, 30, 150000))),
+        Style::Near => Position::Length(roll(seed, 30, 3000).cast_signed()),
+        Style::FarLength => Position::Length(either_sign(seed, roll(seed, 30, 8192001))),
+        Style::Units => Position::Length(roll(seed, 30, 80).cast_signed()),
+        Style::FarPercentage | Style::Mixed => {
+            Position::Percentage(either_sign(seed, roll(seed, 30, 1000001)))
+        }
     }
 }
 
-// Style 7 is any of those before it, for each stop anew.
-fn stop_of(style: u32, opaque: bool, seed: u32) -> Stop {
-    let s = if style == 7 { roll(seed, 31, 7) } else { style };
+fn stop_of(style: Style, opaque: bool, seed: u32) -> Stop {
+    let style = match style {
+        Style::Mixed => pick(seed, 31, &STYLES[..7]),
+        other => other,
+    };
     Stop {
         color: color_of(opaque, seed),
-        position: position_of(s, seed),
+        position: position_of(style, seed),
     }
 }
 
@@ -222,84 +295,137 @@ fn stop_count(seed: u32) -> u32 {
     }
 }
 
-fn stops_of(style: u32, opaque: bool, n: usize, seed: u32) -> [Stop; 16] {
+fn stops_of(style: Style, opaque: bool, n: usize, seed: u32) -> [Stop; 16] {
     let mut stops = [gradient::blank_stop(); 16];
     let mut own = seed;
-    let mut i: usize = 0;
-    while i < n && i < 16 {
+    for stop in stops.iter_mut().take(n) {
         own = seed_of(own, 52);
-        stops[i] = stop_of(style, opaque, own);
-        i += 1;
+        *stop = stop_of(style, opaque, own);
     }
     stops
 }
 
-pub fn gradient_of(kind: u32, seed: u32) -> Gradient {
+pub fn gradient_of(kind: Kind, seed: u32) -> Gradient {
     let n = stop_count(seed);
     let opaque = roll(seed, 51, 2) == 0;
-    let stops = stops_of(roll(seed, 50, 9), opaque, n as usize, seed);
     Gradient {
-        shape: shape_of(kind, seed),
+        shape: kind.shape(seed),
         repeating: roll(seed, 53, 2) == 0,
         count: n,
-        stops: stops,
+        stops: stops_of(pick(seed, 50, &STYLES), opaque, n as usize, seed),
     }
 }
 
 // ---- random boxes
 
-fn sides(w: u32, h: u32) -> Area {
-    Area {
-        width: w as usize,
-        height: h as usize,
+// A box, in pixels.
+#[derive(Clone, Copy, Debug, PartialEq, Eq)]
+pub struct Area {
+    pub width: usize,
+    pub height: usize,
+}
+
+impl Area {
+    // Mostly all rows, else some of them, often one. Of a picture that is too large for the buffers, as many as they hold.
+    pub fn rows(self, seed: u32) -> Range<usize>
+        requires { (0 < self.width) × (0 < self.height) }
+    {
+        let h = self.height;
+        let most = MOST_PIXELS / self.width;
+        let below = seed_of(seed, 70) as usize;
+        if most < h {
+            let a = below % (h - most);
+            return a..a.wrapping_add(most);
+        }
+        let a = below % h;
+        let next = a.wrapping_add(1);
+        match roll(seed, 71, 8) {
+            0 => a..next,
+            1 => a..h,
+            2 => 0..next,
+            _ => 0..h,
+        }
     }
 }
 
-pub fn area_of(sort: u32, seed: u32) -> Area {
-    let m = 1 + roll(seed, 60, 24);
-    let k = 1 + roll(seed, 61, 96);
-    match sort {
-        0 => sides(k, 1 + roll(seed, 62, 96)),
-        1 => sides(k, k),
-        2 => sides(4 * m, 3 * m),
-        3 => sides(3 * m, 4 * m),
-        4 => sides(4 * m, 8 * (1 + k / 8)),
-        5 => sides(3 * k, 1),
-        6 => sides(1, 3 * k),
-        7 => sides(300, 40),
-        8 => sides(40, 300),
-        9 => sides(2048, 8),
-        10 => sides(2048, 24),
-        11 => sides(8, 2048),
-        12 => sides(640, 480),
-        _ => sides(2048, 2048),
-    }
+// A sort of box.
+#[derive(Clone, Copy, Debug, PartialEq, Eq)]
+pub enum Sort {
+    Small,
+    Square,
+    FourByThree,
+    ThreeByFour,
+    Multiple,
+    OneRow,
+    OneColumn,
+    Wide,
+    Tall,
+    EightRows,
+    TwentyFourRows,
+    EightColumns,
+    Screen,
+    Largest,
 }
 
-// Mostly all rows, else some of them, often one. Of a picture that is too large for the buffers, as many as they hold.
-pub fn rows_of(seed: u32, w: usize, h: usize) -> Rows
-    requires { (0 < w) × (0 < h) }
-{
-    let most = 65536 / w;
-    if most < h {
-        let a = (seed_of(seed, 70) as usize) % (h - most);
-        return Rows {
-            first: a,
-            end: std::num::wrapping_add_usize(a, most),
+impl Sort {
+    // All sorts, in the order of their numbers.
+    pub const ALL: [Sort; 14] = [
+        Sort::Small,
+        Sort::Square,
+        Sort::FourByThree,
+        Sort::ThreeByFour,
+        Sort::Multiple,
+        Sort::OneRow,
+        Sort::OneColumn,
+        Sort::Wide,
+        Sort::Tall,
+        Sort::EightRows,
+        Sort::TwentyFourRows,
+        Sort::EightColumns,
+        Sort::Screen,
+        Sort::Largest,
+    ];
+
+    pub fn area(self, seed: u32) -> Area {
+        let m = 1 + roll(seed, 60, 24) as usize;
+        let k = 1 + roll(seed, 61, 96) as usize;
+        let (width, height) = match self {
+            Sort::Small => (k, 1 + roll(seed, 62, 96) as usize),
+            Sort::Square => (k, k),
+            Sort::FourByThree => (4 * m, 3 * m),
+            Sort::ThreeByFour => (3 * m, 4 * m),
+            Sort::Multiple => (4 * m, 8 * (1 + k / 8)),
+            Sort::OneRow => (3 * k, 1),
+            Sort::OneColumn => (1, 3 * k),
+            Sort::Wide => (300, 40),
+            Sort::Tall => (40, 300),
+            Sort::EightRows => (2048, 8),
+            Sort::TwentyFourRows => (2048, 24),
+            Sort::EightColumns => (8, 2048),
+            Sort::Screen => (640, 480),
+            Sort::Largest => (2048, 2048),
         };
+        Area { width, height }
     }
-    let a = (seed_of(seed, 70) as usize) % h;
-    let next = std::num::wrapping_add_usize(a, 1);
-    match roll(seed, 71, 8) {
-        0 => Rows {
-            first: a,
-            end: next,
-        },
-        1 => Rows { first: a, end: h },
-        2 => Rows {
-            first: 0,
-            end: next,
-        },
-        _ => Rows { first: 0, end: h },
+}
+
+impl fmt::Display for Sort {
+    fn fmt<W: fmt::Write>(&self, f: &mut fmt::Formatter<W>) -> fmt::Result {
+        f.write_str(match self {
+            Sort::Small => "boxes to 96x96",
+            Sort::Square => "squares",
+            Sort::FourByThree => "boxes of 4:3",
+            Sort::ThreeByFour => "boxes of 3:4",
+            Sort::Multiple => "multiples of 4 by multiples of 8",
+            Sort::OneRow => "one row",
+            Sort::OneColumn => "one column",
+            Sort::Wide => "300x40",
+            Sort::Tall => "40x300",
+            Sort::EightRows => "2048x8",
+            Sort::TwentyFourRows => "2048x24",
+            Sort::EightColumns => "8x2048",
+            Sort::Screen => "rows of 640x480",
+            Sort::Largest => "rows of 2048x2048",
+        })
     }
 }

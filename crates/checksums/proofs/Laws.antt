@@ -1,40 +1,16 @@
 -- Going on from a checksum: two texts, one after the other, and a loop's turn at index i of a text.
 -- Assumes nothing.
-use mathlib.Core.Path.{◌≡◌, refl, ◌∙◌}
-use mathlib.Core.List.{List, [], ◌∷◌, ◌++◌}
-use Prim.Native.Nat.{ℕ, zero, suc, ◌+◌, ◌*◌, ◌/◌, ◌%◌, ◌≤◌, ◌<◌}
-use native.Mathlib.Nat.{div-add-mod', mod-lt}
-use native.Mathlib.Numerals.{add-one}
-use native.Mathlib.Omega.{arith}
-use lib.Arith.{bin_ind, digits_div, digits_mod}
-use lib.Bits.{bit_xor, differ, xor_step, xor_self}
-use lib.ListN.{length, get_or, drop, drop_of_length-le}
-use lib.Seq.{drop-cons}
+use Rattle.std.proofs.Common.{◌≡◌, ℕ, ◌+◌, ◌*◌, ◌/◌, ◌%◌, ◌≤◌, ◌<◌, List, [], ◌∷◌, ◌++◌, length, get_or, drop, refl, add-one, drop-cons, arith}
+use Rattle.std.proofs.Math.Nat.{div-add-mod'}
+use Rattle.std.specs.Int.Bits.{bit_xor, xor_assoc, xor_self, xor_zero_r}
+use Rattle.std.proofs.Math.ListN.{drop_of_length-le}
 use Rattle.checksums.specs.Crc.{byte_step, register, crc}
 use Rattle.checksums.specs.Adler.{sums, adler}
 
 -- ---- CRC-32
--- two digits
-differ_back : (x y : ℕ) → x < 2 → y < 2 → (differ x y < 2) × (differ (differ x y) y ≡ x)
-differ_back zero zero h k = (h, refl)
-differ_back zero (suc zero) h k = (k, refl)
-differ_back (suc zero) zero h k = (h, refl)
-differ_back (suc zero) (suc zero) h k = (omega arith, refl)
-differ_back zero (suc (suc y)) h k = absurd (omega arith)
-differ_back (suc x) (suc (suc y)) h k = absurd (omega arith)
-differ_back (suc (suc x)) zero h k = absurd (omega arith)
-differ_back (suc (suc x)) (suc zero) h k = absurd (omega arith)
-
 -- an exclusive or, taken twice
 xor-back : (n m : ℕ) → bit_xor (bit_xor n m) m ≡ n
-xor-back = bin_ind (λ (n : ℕ). (m : ℕ) → bit_xor (bit_xor n m) m ≡ n) xor_self step
-  where
-    step : (n : ℕ) → ((m : ℕ) → bit_xor (bit_xor (n / 2) m) m ≡ n / 2) → (m : ℕ) → bit_xor (bit_xor n m) m ≡ n
-    step n back m =
-        let d = differ_back (n % 2) (m % 2) (mod-lt n (omega arith)) (mod-lt m (omega arith)) in
-        let high : bit_xor n m / 2 ≡ bit_xor (n / 2) (m / 2) = rw (xor_step n m) (digits_div _ d.0) in
-        let low : bit_xor n m % 2 ≡ differ (n % 2) (m % 2) = rw (xor_step n m) (digits_mod _ d.0) in
-        xor_step (bit_xor n m) m ∙ rw (high, low, back (m / 2), d.1) (div-add-mod' n 2)
+xor-back n m = rw (xor_assoc, xor_self, xor_zero_r)
 
 register-append : (c : ℕ) (a b : List ℕ) → register c (a ++ b) ≡ register (register c a) b
 unfolding register

@@ -9,6 +9,7 @@ ghost use Rattle.checksums.specs.Adler.{adler};
 // ---- CRC-32
 
 // One bit of the division.
+#[tactic(auto, unfolding(crate::specs::Crc::bit_step))]
 fn bit_step(c: u32) -> u32
     ensures { result ≡ bit_step c }
 {
@@ -16,6 +17,7 @@ fn bit_step(c: u32) -> u32
 }
 
 // Eight bits.
+#[tactic(auto, unfolding(crate::specs::Crc::bits, crate::specs::Crc::byte_step))]
 fn byte_step(c: u32, b: u8) -> u32
     ensures { result ≡ byte_step c b }
 {
@@ -28,10 +30,8 @@ pub fn crc32(c: u32, s: &[u8]) -> u32
     ensures { result ≡ crc c s.now }
 {
     let mut r = c ^ 0xffffffff;
-    let mut i = 0;
-    while i < s.len() {
-        r = byte_step(r, s[i]);
-        i += 1;
+    for b in s {
+        r = byte_step(r, *b);
     }
     r ^ 0xffffffff
 }
@@ -44,11 +44,9 @@ pub fn adler32(c: u32, s: &[u8]) -> u32
 {
     let mut one = c % 65536;
     let mut two = c / 65536;
-    let mut i = 0;
-    while i < s.len() {
-        one = (one + s[i] as u32) % 65521;
+    for b in s {
+        one = (one + *b as u32) % 65521;
         two = (two + one) % 65521;
-        i += 1;
     }
     two * 65536 + one
 }

@@ -5,33 +5,16 @@
 ghost use Rattle.std.specs.Prelude.{◌≡◌, List, ℕ, ◌+◌, ◌*◌, ◌≤◌, ◌<◌, length, get_or};
 ghost use Rattle.line.specs.Box.{Box};
 ghost use Rattle.line.specs.Location.{Rule, location_by};
-ghost use Rattle.line.specs.Represented.{rule_in, Near};
+ghost use Rattle.line.specs.Represented.{Near};
 ghost use Rattle.picture.specs.Picture.{row, patched};
 ghost use Rattle.ramp.specs.Ramp.{Entries, Ramp};
 ghost use Rattle.rows.specs.Pixel.{Rows, pixel_by, ramp_pixel, strip_of};
-ghost use Rattle.circleroots.specs.Squares.{Measured, LowHalves, Known, KnownAbove, InTable};
+ghost use Rattle.circleroots.specs.Squares.{LowHalves, Known, KnownAbove, InTable};
 ghost use Rattle.circle.specs.Circular.{Prepared, Circular, AboveInTurn, one_more, Halved, Symmetric};
 
 use circleroots::RowsKnown;
 use line::{BiasedCenter, Line};
 use rows::Strip;
-
-// The location of pixel (i, j). The guess and the locations of the two pixels before change only how long it takes.
-fn locate(
-    own: u64,
-    c: BiasedCenter,
-    z: Strip,
-    i: usize,
-    j: usize,
-    guess: u32,
-    before: u32,
-    last: u32,
-) -> u32
-    requires { Measured c j own × Box z.w z.h × (i < z.w) × (j < z.h) }
-    ensures { result ≡ location_by (rule_in (Line.Circle c) z.w z.h) i j }
-{
-    circleroots::location(own, c, i, j, guess, before, last) as u32
-}
 
 // Draws row j from `at` on, pixel by pixel. `guesses` has guesses at its locations, and is left with the locations themselves.
 fn draw_row(
@@ -48,19 +31,14 @@ fn draw_row(
 {
     let w = z.w;
     let own = circleroots::square(c.y, j);
-    let mut i = 0;
-    let mut o = at;
     let mut before = guesses[0];
     let mut last = before;
-    while i < w {
-        let s = locate(own, c, z, i, j, guesses[i], before, last);
+    for i in 0..w {
+        let s = circleroots::location(own, c, i, j, guesses[i], before, last);
         guesses[i] = s;
         before = last;
         last = s;
-        let e = ramp::color(ramp, s as u64);
-        words::put_word(buf, o, e);
-        o += 4;
-        i += 1;
+        words::put_word(buf, at + 4 * i, ramp::color(ramp, u64::from(s)));
     }
 }
 
@@ -71,13 +49,9 @@ fn draw_known(t: &[u32], base: u32, known: &[u32], w: usize, at: usize, buf: &mu
         → ((i : ℕ) → i < w → get_or known.now i 0 ≡ location_by rule i j)
         → buf.new ≡ patched buf.old at (row (pixel_by rule color) w j) }
 {
-    let mut i = 0;
-    let mut o = at;
-    while i < w {
+    for i in 0..w {
         let k = (known[i] - base) as usize;
-        words::put_word(buf, o, t[k]);
-        o += 4;
-        i += 1;
+        words::put_word(buf, at + 4 * i, t[k]);
     }
 }
 
@@ -164,10 +138,8 @@ fn mirror(buf: &mut [u8], at: usize, w: usize, n: usize)
     ensures { (px : ℕ → ℕ → List ℕ) (j : ℕ) (d : List ℕ) → Symmetric px w n j → buf.old ≡ patched d at (row px n j)
         → at + 4 * w ≤ length d → buf.new ≡ patched d at (row px w j) }
 {
-    let mut i = n;
-    while i < w {
+    for i in n..w {
         picture::copy_row(buf, at + 4 * (w - 1 - i), at + 4 * i, 4);
-        i += 1;
     }
 }
 
@@ -190,10 +162,9 @@ fn draw_rows(
     let b = z.b;
     let bytes = 4 * z.w;
     let part = Strip { w: n, h: z.h, a, b };
-    let mut j = a;
-    let mut o = 0;
     let mut known = RowsKnown::None;
-    while j < b {
+    for j in a..b {
+        let o = bytes * (j - a);
         let m = circleroots::mirrored(c.y, a, j);
         if m < j {
             picture::copy_row(buf, bytes * (m - a), o, bytes);
@@ -203,8 +174,6 @@ fn draw_rows(
             mirror(buf, o, z.w, n);
             known = one_more(known);
         }
-        o += bytes;
-        j += 1;
     }
 }
 

@@ -8,27 +8,14 @@ use Rattle.root.proofs.Laws.{root-le, root_is}
 use Rattle.line.specs.Location.{location_by}
 use Rattle.line.specs.Circle.{from}
 use Rattle.line.specs.declared.BiasedCenter.{BiasedCenter}
-use Rattle.lowroots.specs.Found.{root_limit, short_limit, Finds}
-use Rattle.circleroots.specs.Squares.{far_square, near_square, square_of, Known, InTable, KnownPart, Kept, FromOneRow, FromTwoRows, Beyond, Short, Guessable}
+use Rattle.lowroots.specs.Found.{root_limit, short_limit}
+use Rattle.circleroots.specs.Squares.{Ahead, Onward, far_square, near_square, square_of, Known, InTable, KnownPart, Kept, FromOneRow, FromTwoRows, Beyond, Short, Guessable}
 use Rattle.circleroots.proofs.Columns.{square-below, from_next, from-toward, from-away}
 use Rattle.circleroots.proofs.Far.{not-above, not-below, next-away, next-toward, squares-bend, farthest}
 use Rattle.circleroots.proofs.Parts.{Each}
 
--- b is found among the n numbers from a guess on, which is made from two roots
-pub record Ahead (n limit low before last b : ℕ) : Type 0 where
-  pub guess : ℕ
-  pub fits : guess < 4294967296
-  pub is : (guess + before + 1) % 4294967296 ≡ 2 * last % 4294967296
-  pub found : Finds n limit low guess b
-
 abbrev pub AheadAt : ℕ → ℕ → List ℕ → ℕ → List ℕ → List ℕ → ℕ → ℕ → Type 0
 AheadAt n limit low r before last i b = Ahead n limit ((get_or low i 0 + r) % 4294967296) (get_or before i 0) (get_or last i 0) b
-
--- b is found among the 65 numbers from one root on, or from `down` below it
-pub record Onward (low last down b : ℕ) : Type 0 where
-  pub guess : ℕ
-  pub is : last < short_limit → guess ≡ last - down
-  pub found : Finds 65 short_limit low guess b
 
 abbrev pub OnwardAt : List ℕ → ℕ → List ℕ → ℕ → ℕ → ℕ → Type 0
 OnwardAt low r last down i b = Onward ((get_or low i 0 + r) % 4294967296) (get_or last i 0) down b
@@ -134,16 +121,14 @@ module _ (c : BiasedCenter) (w j : ℕ) (low : List ℕ) (room-before room-last 
           near-pixel (square_of c.x i) (from (unbiased c.y) (64 * k + 32)) (from (unbiased c.y) (64 * m + 32)) (from (unbiased c.y) (64 * j + 32)) (get_or before i 0) (get_or last i 0)
           (three i p q) _ (get_or l i 0) (all i p q) (low-is i (omega arith)) (far i p q) (short i (omega arith))
 
-    -- what a loop over them has found at its end, i
-    pub far-found : (before last l : List ℕ) (i : ℕ) → i ≡ b → Each (AheadAt 4 root_limit low r before last) a i l → Kept a i before l → Beyond c far_square j a b
+    -- what a part of the row has found
+    pub far-found : (before last l : List ℕ) → Each (AheadAt 4 root_limit low r before last) a b l → Kept a b before l → Beyond c far_square j a b
         → FromTwoRows c j a b last before l
-    far-found before last l i e all kept far =
-        record { kept = rw (← e) kept; part = λ k m ek em two one. far-is before last l k m ek em two one (rw (← e) all) far }
+    far-found before last l all kept far = record { kept = kept; part = λ k m ek em two one. far-is before last l k m ek em two one all far }
 
-    pub near-found : (before last l : List ℕ) (i : ℕ) → i ≡ b → Each (AheadAt 16 short_limit low r before last) a i l → Kept a i before l → Beyond c near_square j a b
+    pub near-found : (before last l : List ℕ) → Each (AheadAt 16 short_limit low r before last) a b l → Kept a b before l → Beyond c near_square j a b
         → Short c w j → FromTwoRows c j a b last before l
-    near-found before last l i e all kept far short =
-        record { kept = rw (← e) kept; part = λ k m ek em two one. near-is before last l k m ek em two one (rw (← e) all) far short }
+    near-found before last l all kept far short = record { kept = kept; part = λ k m ek em two one. near-is before last l k m ek em two one all far short }
 
     -- from one row
     module _ (last l : List ℕ) (m : ℕ) (em : m + 1 ≡ j) (one : KnownPart c m a b last) (short : Short c w j) where
@@ -180,9 +165,9 @@ module _ (c : BiasedCenter) (w j : ℕ) (low : List ℕ) (room-before room-last 
               at (get_or last i 0 - 64) (omega (arith, (all i p q).is (last-below i p q), e₁ (omega arith))) (omega (arith, last-below i p q))
               (next-toward s (from (unbiased c.y) (64 * m + 32)) (from (unbiased c.y) (64 * j + 32)) (get_or last i 0) root (from-toward c.y m j em (omega arith)) (from_next c.y m j em).0)
 
-    pub next-found : (old last l : List ℕ) (i : ℕ) → i ≡ b → (down : ℕ) → (64 * j + bias < c.y → down ≡ 64) → (c.y ≤ 64 * j + bias → down ≡ 0)
-        → Each (OnwardAt low r last down) a i l → Kept a i old l → Short c w j → FromOneRow c j a b last old l
-    next-found old last l i e down e₁ e₂ all kept short = record { kept = rw (← e) kept; part = λ m em one. next-is last l m em one short down e₁ e₂ (rw (← e) all) }
+    pub next-found : (old last l : List ℕ) (down : ℕ) → (64 * j + bias < c.y → down ≡ 64) → (c.y ≤ 64 * j + bias → down ≡ 0)
+        → Each (OnwardAt low r last down) a b l → Kept a b old l → Short c w j → FromOneRow c j a b last old l
+    next-found old last l down e₁ e₂ all kept short = record { kept = kept; part = λ m em one. next-is last l m em one short down e₁ e₂ all }
 
   -- all of a row's locations are in the table where those of the nearest column k, of the first and of the last column are
   pub row-in-table : (l : List ℕ) → Known c w j l → (base n k e : ℕ) → k < w → ((i : ℕ) → i < w → square_of c.x k ≤ square_of c.x i) → e + 1 ≡ w

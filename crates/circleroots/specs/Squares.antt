@@ -1,11 +1,12 @@
 -- The squared distances of columns and rows from a circle's center, and the locations that they give. The center's coordinates are biased.
 -- Assumes nothing.
-use Rattle.std.specs.Prelude.{◌≡◌, ℕ, ◌+◌, ◌*◌, ◌%◌, ◌<◌, ◌≤◌, List, length, slice_index}
+use Rattle.std.specs.Prelude.{◌≡◌, ℕ, ◌+◌, ◌-◌, ◌*◌, ◌%◌, ◌<◌, ◌≤◌, List, length, slice_index}
 use Rattle.numbers.specs.Biased.{bias, unbiased}
 use Rattle.line.specs.Location.{squared, location_by}
 use Rattle.line.specs.Circle.{from, circle_rule}
 use Rattle.line.specs.Represented.{Near, center_in}
 use Rattle.line.specs.declared.BiasedCenter.{BiasedCenter}
+use Rattle.lowroots.specs.Found.{short_limit, Finds}
 use Rattle.circleroots.specs.declared.RowsKnown.{RowsKnown}
 use Rattle.circleroots.specs.declared.RowsKnown.TheVariants as R
 
@@ -61,6 +62,24 @@ KnownPart c j a b l = (i : ℕ) → a ≤ i → i < b → slice_index l i ≡ lo
 pub record Kept (a b : ℕ) (old new : List ℕ) : Type 0 where
   pub before : (i : ℕ) → i < a → slice_index new i ≡ slice_index old i
   pub after : (i : ℕ) → b ≤ i → slice_index new i ≡ slice_index old i
+
+-- .. and each of these was found from the one that it replaces, the one beside it in `last`, and the low 32 bits of its pixel's squared distance
+pub record Found (find : ℕ → ℕ → ℕ → ℕ → Type 0) (r a b : ℕ) (low last old new : List ℕ) : Type 0 where
+  pub kept : Kept a b old new
+  pub each : (i : ℕ) → a ≤ i → i < b → find (slice_index old i) (slice_index last i) ((slice_index low i + r) % 4294967296) (slice_index new i)
+
+-- b is found among the n numbers from a guess on, which is made from two roots
+pub record Ahead (n limit low before last b : ℕ) : Type 0 where
+  pub guess : ℕ
+  pub fits : guess < 4294967296
+  pub is : (guess + before + 1) % 4294967296 ≡ 2 * last % 4294967296
+  pub found : Finds n limit low guess b
+
+-- b is found among the 65 numbers from one root on, or from `down` below it
+pub record Onward (low last down b : ℕ) : Type 0 where
+  pub guess : ℕ
+  pub is : last < short_limit → guess ≡ last - down
+  pub found : Finds 65 short_limit low guess b
 
 -- .. and these are the locations of row j, where `last` has those of the row above
 pub record FromOneRow (c : BiasedCenter) (j a b : ℕ) (last old new : List ℕ) : Type 0 where

@@ -8,8 +8,8 @@ ghost use Rattle.root.specs.Root.{root_of};
 ghost use Rattle.line.specs.Location.{location_by};
 ghost use Rattle.line.specs.Circle.{circle_rule};
 ghost use Rattle.line.specs.Represented.{center_in, Near};
-ghost use Rattle.lowroots.specs.Found.{short_limit};
-ghost use Rattle.circleroots.specs.Squares.{far_square, near_square, square_of, Mirrored, LowHalves, Known, KnownAbove, InTable, FromOneRow, FromTwoRows, Nearest, Beyond, Short, Guessable, Measured};
+ghost use Rattle.lowroots.specs.Found.{root_limit, short_limit};
+ghost use Rattle.circleroots.specs.Squares.{far_square, near_square, square_of, Mirrored, LowHalves, Known, KnownAbove, InTable, FromOneRow, FromTwoRows, Nearest, Beyond, Short, Guessable, Measured, Found, Ahead, Onward};
 
 use line::BiasedCenter;
 
@@ -26,7 +26,7 @@ const NEAR_SQUARE: u64 = (64 * 7) * (64 * 7);
 const SHORT_SQUARE: u64 = 8796093022208;
 
 // Which of the two rows above have their locations in the lists: none; the row above, in `last`; or also the row above that, in `before`.
-#[derive(Clone, Copy)]
+#[derive(Clone, Copy, Debug, PartialEq, Eq)]
 pub enum RowsKnown {
     None,
     One,
@@ -38,7 +38,7 @@ pub fn square(c: u32, i: usize) -> u64
     requires { (c < twice_bias) × (i < 2048) }
     ensures { (result ≡ square_of c i) × (result < 4503599627370496) }
 {
-    let d = numbers::apart(64 * (i as u64) + 32 + numbers::WIDE_BIAS, c as u64);
+    let d = numbers::apart(64 * (i as u64) + 32 + numbers::WIDE_BIAS, u64::from(c));
     d * d
 }
 
@@ -58,8 +58,7 @@ pub fn mirrored(c: u32, a: usize, j: usize) -> usize
     if sum < a + j + 1 {
         return j;
     }
-    let m = sum - (j + 1);
-    if m < j { m } else { j }
+    j.min(sum - (j + 1))
 }
 
 // Of columns or rows a up to b, the one that the center's coordinate lies in, or else the nearest to it.
@@ -74,7 +73,7 @@ pub fn nearest(c: u32, a: usize, b: usize) -> usize
     if k < a {
         return a;
     }
-    if k < b { k } else { b - 1 }
+    k.min(b - 1)
 }
 
 // Fills `low` with the low 32 bits of the squares of w columns.
@@ -82,11 +81,8 @@ pub fn fill_low(low: &mut [u32], w: usize, c: BiasedCenter)
     requires { Near c × (w ≤ 2048) × (w ≤ length low.old) }
     ensures { LowHalves c.x w low.new }
 {
-    let x = c.x;
-    let mut i = 0;
-    while i < w {
-        low[i] = numbers::low_half(square(x, i));
-        i += 1;
+    for (i, l) in low[..w].iter_mut().enumerate() {
+        *l = numbers::low_half(square(c.x, i));
     }
 }
 
@@ -94,64 +90,31 @@ pub fn fill_low(low: &mut [u32], w: usize, c: BiasedCenter)
 fn is_in_table(g: u32, base: u32, n: u32) -> bool
     ensures { result ≡ true → base + n ≤ bias → (base ≤ g) × (g < base + n) }
 {
-    std::num::wrapping_sub_u32(g, base) < n
+    g.wrapping_sub(base) < n
 }
 
-// ---- parts of row j: columns a up to b. `last` has the locations of the row above, and `before` those of the row above that, which are replaced by
-// those of row j.
+// ---- one pixel: its location from those of the pixels above it and the low 32 bits of its squared distance
 
-// 66 px or more from the center: each location is one of the four numbers from the guess on.
-fn far_part(
-    before: &mut [u32],
-    last: &[u32],
-    low: &[u32],
-    c: BiasedCenter,
-    w: usize,
-    j: usize,
-    a: usize,
-    b: usize,
-)
-    requires { Guessable c w j low.now (length before.old) (length last.now) × (a ≤ b) × (b ≤ w) × Beyond c far_square j a b }
-    ensures { FromTwoRows c j a b last.now before.old before.new }
+// 66 px or more from the center: one of the four numbers from the guess on.
+fn far_root(before: u32, last: u32, low: u32) -> u32
+    ensures { Ahead 4 root_limit low before last result }
 {
-    let r = numbers::low_half(square(c.y, j));
-    let mut i = a;
-    while i < b {
-        let l = std::num::wrapping_add_u32(low[i], r);
-        before[i] = lowroots::among_4(root::ahead(before[i], last[i]), l);
-        i += 1;
-    }
+    lowroots::among_4(root::ahead(before, last), low)
 }
 
 // 7 px or more from the center: one of 16 numbers.
-fn near_part(
-    before: &mut [u32],
-    last: &[u32],
-    low: &[u32],
-    c: BiasedCenter,
-    w: usize,
-    j: usize,
-    a: usize,
-    b: usize,
-)
-    requires { Guessable c w j low.now (length before.old) (length last.now) × (a ≤ b) × (b ≤ w) × Beyond c near_square j a b × Short c w j }
-    ensures { FromTwoRows c j a b last.now before.old before.new }
+fn near_root(before: u32, last: u32, low: u32) -> u32
+    ensures { Ahead 16 short_limit low before last result }
 {
-    let r = numbers::low_half(square(c.y, j));
-    let mut i = a;
-    while i < b {
-        let l = std::num::wrapping_add_u32(low[i], r);
-        before[i] = lowroots::among_16(root::ahead(before[i], last[i]), l);
-        i += 1;
-    }
+    lowroots::among_16(root::ahead(before, last), low)
 }
 
-// x - n, or 0 where n is greater, of an x below 2^22.
-fn less(x: u32, n: u32) -> u32
-    ensures { x < short_limit → result ≡ x - n }
+// Anywhere, from the row above alone: one of the 65 numbers from `down` below its location on.
+fn next_root(last: u32, down: u32, low: u32) -> u32
+    ensures { Onward low last down result }
 {
-    let q = x % lowroots::SHORT_LIMIT;
-    if q < n { 0 } else { q - n }
+    let q = last % lowroots::SHORT_LIMIT;
+    lowroots::among_65(q.saturating_sub(down), low)
 }
 
 // How much less a location of row j can be than the one above it: 64 where the row is nearer to the center than the one above, else 0.
@@ -166,37 +129,34 @@ fn descent(c: u32, j: usize) -> u32
     }
 }
 
-// Anywhere, from the row above alone: a location changes by at most 64 from one row to the next. `before` may hold anything.
-fn next_part(
+// ---- parts of row j: columns a up to b. `last` has the locations of the row above, and `before` those of the row above that, which are replaced by
+// those of row j.
+
+// Replaces each number in `before` by what `find` makes of it, of the one in `last`, and of the low 32 bits of the pixel's squared distance; r has those
+// of the row's square.
+fn part<F: Fn(u32, u32, u32) -> u32>(
     before: &mut [u32],
     last: &[u32],
     low: &[u32],
-    c: BiasedCenter,
-    w: usize,
-    j: usize,
+    r: u32,
     a: usize,
     b: usize,
+    find: F,
 )
-    requires { Guessable c w j low.now (length before.old) (length last.now) × (a ≤ b) × (b ≤ w) × Short c w j }
-    ensures { FromOneRow c j a b last.now before.old before.new }
+    requires { F.IsAlwaysCallable find × (a ≤ b) × (b ≤ length before.old) × (b ≤ length last.now) × (b ≤ length low.now) }
+    ensures { Found (F.post find) r a b low.now last.now before.old before.new }
 {
-    let r = numbers::low_half(square(c.y, j));
-    let down = descent(c.y, j);
-    let mut i = a;
-    while i < b {
-        let l = std::num::wrapping_add_u32(low[i], r);
-        before[i] = lowroots::among_65(less(last[i], down), l);
-        i += 1;
+    for i in a..b {
+        before[i] = find(before[i], last[i], low[i].wrapping_add(r));
     }
 }
 
-// ---- whole rows
-
-// The first column that is at most k away from column m.
-fn first_of(m: usize, k: usize) -> usize
-    ensures { result ≡ m - k }
-{
-    if m < k { 0 } else { m - k }
+// Row j of w columns around a center.
+#[derive(Clone, Copy, Debug, PartialEq, Eq)]
+struct Row {
+    c: BiasedCenter,
+    w: usize,
+    j: usize,
 }
 
 // Of w columns, the one after the last that is at most k away from column m.
@@ -204,100 +164,108 @@ fn end_of(m: usize, k: usize, w: usize) -> usize
     requires { (m < w) × (w ≤ 2048) × (k ≤ 2048) }
     ensures { (m < result) × (result ≤ w) × (result ≤ m + k + 1) × (result < w → result ≡ m + k + 1) }
 {
-    if m + k < w { m + k + 1 } else { w }
+    w.min(m + k + 1)
 }
 
-// Columns a up to b of row j, among them all that are at most 7 away from column m, the nearest to the center.
-fn near_parts(
-    before: &mut [u32],
-    last: &[u32],
-    low: &[u32],
-    c: BiasedCenter,
-    w: usize,
-    j: usize,
-    m: usize,
-    a: usize,
-    b: usize,
-)
-    requires { Guessable c w j low.now (length before.old) (length last.now) × Nearest c.x w m × (a ≤ m - 7) × (m < b) × (b ≤ w) × (b < w → m + 8 ≤ b) × Short c w j }
-    ensures { FromTwoRows c j a b last.now before.old before.new }
-{
-    if NEAR_SQUARE <= square(c.y, j) {
-        near_part(before, last, low, c, w, j, a, b);
-        return;
+impl Row {
+    // Columns a up to b, 66 px or more from the center.
+    fn far_part(self, before: &mut [u32], last: &[u32], low: &[u32], a: usize, b: usize)
+        requires { Guessable self.c self.w self.j low.now (length before.old) (length last.now) × (a ≤ b) × (b ≤ self.w) × Beyond self.c far_square self.j a b }
+        ensures { FromTwoRows self.c self.j a b last.now before.old before.new }
+    {
+        let r = numbers::low_half(square(self.c.y, self.j));
+        part(before, last, low, r, a, b, far_root);
     }
-    let p = first_of(m, NEAR);
-    let q = end_of(m, NEAR, w);
-    near_part(before, last, low, c, w, j, a, p);
-    next_part(before, last, low, c, w, j, p, q);
-    near_part(before, last, low, c, w, j, q, b);
-}
 
-// All of row j. Column m is the nearest to the center.
-fn all_parts(
-    before: &mut [u32],
-    last: &[u32],
-    low: &[u32],
-    c: BiasedCenter,
-    w: usize,
-    j: usize,
-    m: usize,
-)
-    requires { Guessable c w j low.now (length before.old) (length last.now) × Nearest c.x w m }
-    ensures { FromTwoRows c j 0 w last.now before.old before.new }
-{
-    if FAR_SQUARE <= square(c.x, m) + square(c.y, j) {
-        far_part(before, last, low, c, w, j, 0, w);
-        return;
+    // 7 px or more from the center.
+    // Kept: beside `far_part`, since each asks and finds something else, and all that they share is `part`.
+    fn near_part(self, before: &mut [u32], last: &[u32], low: &[u32], a: usize, b: usize)
+        requires { Guessable self.c self.w self.j low.now (length before.old) (length last.now) × (a ≤ b) × (b ≤ self.w) × Beyond self.c near_square self.j a b × Short self.c self.w self.j }
+        ensures { FromTwoRows self.c self.j a b last.now before.old before.new }
+    {
+        let r = numbers::low_half(square(self.c.y, self.j));
+        part(before, last, low, r, a, b, near_root);
     }
-    let p = first_of(m, FAR);
-    let q = end_of(m, FAR, w);
-    far_part(before, last, low, c, w, j, 0, p);
-    near_parts(before, last, low, c, w, j, m, p, q);
-    far_part(before, last, low, c, w, j, q, w);
-}
 
-// Whether the squared distances of row j are below 2^43.
-fn is_short(c: BiasedCenter, w: usize, j: usize) -> bool
-    requires { Near c × (0 < w) × (w ≤ 2048) × (j < 2048) }
-    ensures { result ≡ true → Short c w j }
-{
-    let own = square(c.y, j);
-    square(c.x, 0) + own < SHORT_SQUARE && square(c.x, w - 1) + own < SHORT_SQUARE
-}
+    // Anywhere: a location changes by at most 64 from one row to the next. `before` may hold anything.
+    fn next_part(self, before: &mut [u32], last: &[u32], low: &[u32], a: usize, b: usize)
+        requires { Guessable self.c self.w self.j low.now (length before.old) (length last.now) × (a ≤ b) × (b ≤ self.w) × Short self.c self.w self.j }
+        ensures { FromOneRow self.c self.j a b last.now before.old before.new }
+    {
+        let r = numbers::low_half(square(self.c.y, self.j));
+        let down = descent(self.c.y, self.j);
+        let find = |_: u32, q: u32, l: u32| -> u32
+            ensures { Onward l q down result }
+        { next_root(q, down, l) };
+        part(before, last, low, r, a, b, find);
+    }
 
-// Replaces the numbers in `before` by the locations of row j, and tells whether they were found. Column m is the nearest to the center.
-fn find_row(
-    before: &mut [u32],
-    last: &[u32],
-    low: &[u32],
-    known: RowsKnown,
-    c: BiasedCenter,
-    w: usize,
-    j: usize,
-    m: usize,
-) -> bool
-    requires { Guessable c w j low.now (length before.old) (length last.now) × Nearest c.x w m × KnownAbove known c w j before.old last.now }
-    ensures { result ≡ true → Known c w j before.new }
-{
-    match known {
-        RowsKnown::None => false,
-        RowsKnown::One => {
-            if !is_short(c, w, j) {
-                return false;
+    // Columns a up to b, among them all that are at most 7 away from column m, the nearest to the center.
+    fn near_parts(self, before: &mut [u32], last: &[u32], low: &[u32], m: usize, a: usize, b: usize)
+        requires { Guessable self.c self.w self.j low.now (length before.old) (length last.now) × Nearest self.c.x self.w m × (a ≤ m - 7) × (m < b) × (b ≤ self.w) × (b < self.w → m + 8 ≤ b) × Short self.c self.w self.j }
+        ensures { FromTwoRows self.c self.j a b last.now before.old before.new }
+    {
+        if NEAR_SQUARE <= square(self.c.y, self.j) {
+            self.near_part(before, last, low, a, b);
+            return;
+        }
+        let p = m.saturating_sub(NEAR);
+        let q = end_of(m, NEAR, self.w);
+        self.near_part(before, last, low, a, p);
+        self.next_part(before, last, low, p, q);
+        self.near_part(before, last, low, q, b);
+    }
+
+    // All columns. Column m is the nearest to the center.
+    fn all_parts(self, before: &mut [u32], last: &[u32], low: &[u32], m: usize)
+        requires { Guessable self.c self.w self.j low.now (length before.old) (length last.now) × Nearest self.c.x self.w m }
+        ensures { FromTwoRows self.c self.j 0 self.w last.now before.old before.new }
+    {
+        if FAR_SQUARE <= square(self.c.x, m) + square(self.c.y, self.j) {
+            self.far_part(before, last, low, 0, self.w);
+            return;
+        }
+        let p = m.saturating_sub(FAR);
+        let q = end_of(m, FAR, self.w);
+        self.far_part(before, last, low, 0, p);
+        self.near_parts(before, last, low, m, p, q);
+        self.far_part(before, last, low, q, self.w);
+    }
+
+    // Whether the squared distances of the row are below 2^43.
+    fn is_short(self) -> bool
+        requires { Near self.c × (0 < self.w) × (self.w ≤ 2048) × (self.j < 2048) }
+        ensures { result ≡ true → Short self.c self.w self.j }
+    {
+        let own = square(self.c.y, self.j);
+        square(self.c.x, 0) + own < SHORT_SQUARE
+            && square(self.c.x, self.w - 1) + own < SHORT_SQUARE
+    }
+
+    // Replaces the numbers in `before` by the row's locations, and tells whether they were found. Column m is the nearest to the center.
+    fn find(self, before: &mut [u32], last: &[u32], low: &[u32], known: RowsKnown, m: usize) -> bool
+        requires { Guessable self.c self.w self.j low.now (length before.old) (length last.now) × Nearest self.c.x self.w m × KnownAbove known self.c self.w self.j before.old last.now }
+        ensures { result ≡ true → Known self.c self.w self.j before.new }
+    {
+        match known {
+            RowsKnown::None => false,
+            RowsKnown::One => {
+                if !self.is_short() {
+                    return false;
+                }
+                self.next_part(before, last, low, 0, self.w);
+                true
             }
-            next_part(before, last, low, c, w, j, 0, w);
-            true
-        }
-        RowsKnown::Two => {
-            all_parts(before, last, low, c, w, j, m);
-            true
+            RowsKnown::Two => {
+                self.all_parts(before, last, low, m);
+                true
+            }
         }
     }
 }
 
-// The same, and whether all of them are among the n numbers from `base` on: the least of a row is that of the nearest column, the greatest that of the
-// first or the last.
+// Replaces the numbers in `before` by the locations of row j, and tells whether they were found and are all among the n numbers from `base` on: the least
+// of a row is that of the nearest column, the greatest that of the first or the last.
 pub fn next_row(
     before: &mut [u32],
     last: &[u32],
@@ -313,7 +281,8 @@ pub fn next_row(
     ensures { result ≡ true → Known c w j before.new × InTable base n w before.new }
 {
     let m = nearest(c.x, 0, w);
-    if !find_row(before, last, low, known, c, w, j, m) {
+    let row = Row { c, w, j };
+    if !row.find(before, last, low, known, m) {
         return false;
     }
     if !is_in_table(before[m], base, n) {
@@ -326,8 +295,8 @@ pub fn next_row(
 pub fn circle_root(d: u64, guess: u32, before: u32, last: u32) -> u64
     ensures { result ≡ root_of 1 d }
 {
-    let b = guess as u64;
-    if std::num::wrapping_sub_u64(d, b * b) <= 2 * b {
+    let b = u64::from(guess);
+    if d.wrapping_sub(b * b) <= 2 * b {
         return b;
     }
     root::root_near(1, d, root::ahead(before, last))
@@ -342,9 +311,9 @@ pub fn location(
     guess: u32,
     before: u32,
     last: u32,
-) -> u64
+) -> u32
     requires { Measured c j own × (i < 2048) }
     ensures { result ≡ location_by (circle_rule (center_in c)) i j }
 {
-    circle_root(square(c.x, i) + own, guess, before, last)
+    circle_root(square(c.x, i) + own, guess, before, last) as u32
 }

@@ -5,6 +5,7 @@ use mathlib.Core.Bool.{Bool, true, false, cond, ◌&&◌}
 use mathlib.Core.List.{List}
 use Prim.Native.Nat.{ℕ}
 use lib.IntN.{ℤ}
+use Rattle.std.specs.Prelude.{Option, Some, None}
 use Rattle.gradient.specs.Range.{coordinate_in, size_in, shape_in}
 use Rattle.gradient.specs.declared.Vertical.TheVariants as Ver
 use Rattle.gradient.specs.declared.Horizontal.TheVariants as Hor
@@ -23,15 +24,11 @@ use Rattle.tokens.specs.Number.{exact}
 use Rattle.tokens.specs.Cut.{cut}
 use Rattle.tokens.proofs.Cut.{length_cut, radius-cut, percentage-cut, length-kept, radius-kept, percentage-kept}
 use Rattle.directions.specs.Direction.{horizontal_of, vertical_of}
-use Rattle.text.proofs.Whole.{map-gap}
+use Rattle.text.proofs.WholeTexts.{map-gap}
 use Rattle.directions.proofs.Cut.{as-cut, cut_direction, direction-in-cut, direction-kept}
 use Rattle.circles.specs.declared.Part.{Part}
 use Rattle.circles.specs.declared.Part.TheVariants as P
-use Rattle.circles.specs.declared.Axis.{Axis}
-use Rattle.circles.specs.declared.Axis.TheVariants as A
 use Rattle.circles.specs.declared.Place.{Place}
-use Rattle.circles.specs.declared.Pair.{Pair}
-use Rattle.circles.specs.declared.Pair.TheVariants as Two
 use Rattle.circles.specs.Position.{as_coordinate, coordinate_of, part_of, middle, as_across, as_down, is_keyword, place, one_part, paired, or_pair, two_parts, placed, second_of, position_of}
 use Rattle.circles.specs.Circle.{extent_of, as_length, length_of, size_of, circle_first, size_first, circle_of, at_of, radial_of}
 
@@ -46,16 +43,16 @@ cut_part (P.Down v) = P.Down v
 cut_part P.Center = P.Center
 cut_part (P.At c) = P.At (cut_coordinate c)
 
-abbrev cut_axis : Axis → Axis
-cut_axis (A.At c) = A.At (cut_coordinate c)
-cut_axis A.Not = A.Not
+abbrev cut_axis : Option Coordinate → Option Coordinate
+cut_axis (Some c) = Some (cut_coordinate c)
+cut_axis None = None
 
 abbrev pub cut_place : Place → Place
 cut_place p = place (cut_coordinate p.x) (cut_coordinate p.y)
 
-abbrev cut_pair : Pair → Pair
-cut_pair (Two.At p) = Two.At (cut_place p)
-cut_pair Two.Not = Two.Not
+abbrev cut_pair : Option Place → Option Place
+cut_pair (Some p) = Some (cut_place p)
+cut_pair None = None
 
 coordinate-of-cut : (l : List ℕ) → coordinate_of cut l ≡ map_read cut_coordinate (coordinate_of exact l)
 unfolding coordinate_of
@@ -113,24 +110,24 @@ keyword-cut (P.Down v) = refl
 keyword-cut P.Center = refl
 keyword-cut (P.At c) = refl
 
-paired-cut : (x : Axis) (y : Axis) → paired (cut_axis x) (cut_axis y) ≡ cut_pair (paired x y)
-paired-cut (A.At x) (A.At y) = refl
-paired-cut (A.At x) A.Not = refl
-paired-cut A.Not y = refl
+paired-cut : (x : Option Coordinate) (y : Option Coordinate) → paired (cut_axis x) (cut_axis y) ≡ cut_pair (paired x y)
+paired-cut (Some x) (Some y) = refl
+paired-cut (Some x) None = refl
+paired-cut None y = refl
 
-or-pair-cut : (p : Pair) (t : Bool) (q : Pair) → or_pair (cut_pair p) (cond t (cut_pair q) Two.Not) ≡ cut_pair (or_pair p (cond t q Two.Not))
-or-pair-cut (Two.At p) t q = refl
-or-pair-cut Two.Not true q = refl
-or-pair-cut Two.Not false q = refl
+or-pair-cut : (p : Option Place) (t : Bool) (q : Option Place) → or_pair (cut_pair p) (cond t (cut_pair q) None) ≡ cut_pair (or_pair p (cond t q None))
+or-pair-cut (Some p) t q = refl
+or-pair-cut None true q = refl
+or-pair-cut None false q = refl
 
 two-cut : (a : Part) (b : Part) → two_parts (cut_part a) (cut_part b) ≡ cut_pair (two_parts a b)
 two-cut a b =
     rw (across-cut a, down-cut b, paired-cut (as_across a) (as_down b), keyword-cut a, keyword-cut b, across-cut b, down-cut a, paired-cut (as_across b) (as_down a))
     (or-pair-cut (paired (as_across a) (as_down b)) (is_keyword a && is_keyword b) (paired (as_across b) (as_down a)))
 
-placed-cut : (p : Pair) (l : List ℕ) → map_read cut_place (placed p l) ≡ placed (cut_pair p) l
-placed-cut (Two.At p) l = refl
-placed-cut Two.Not l = refl
+placed-cut : (p : Option Place) (l : List ℕ) → map_read cut_place (placed p l) ≡ placed (cut_pair p) l
+placed-cut (Some p) l = refl
+placed-cut None l = refl
 
 second-of-cut : (a : Part) (l : List ℕ) → map_read cut_place (second_of exact a l) ≡ second_of cut (cut_part a) l
 unfolding second_of

@@ -1,4 +1,3 @@
 pub mod Position
 pub mod Circle
-pub mod View
 pub mod Worked

@@ -3,7 +3,7 @@
 -- the second vertical, but two keywords may come in either order." `keep` is how a number is kept.
 -- The code is proved by these definitions, and crate `grammar` proves that they are the grammar.
 -- Assumes nothing.
-use Rattle.std.specs.Prelude.{ℕ, Bool, true, false, cond, ◌&&◌, List, ℤ, pos}
+use Rattle.std.specs.Prelude.{ℕ, Bool, true, false, cond, ◌&&◌, List, Option, Some, None, ℤ, pos}
 use Rattle.text.specs.Text.{Read, got, refused, ◌>>=◌, ◌or_read◌, word_for, after_gap}
 use Rattle.tokens.specs.declared.Unit.{Unit}
 use Rattle.tokens.specs.declared.Unit.TheVariants as U
@@ -16,11 +16,7 @@ use Rattle.gradient.specs.declared.Coordinate.{Coordinate}
 use Rattle.gradient.specs.declared.Coordinate.TheVariants as C
 use Rattle.circles.specs.declared.Part.{Part}
 use Rattle.circles.specs.declared.Part.TheVariants as P
-use Rattle.circles.specs.declared.Axis.{Axis}
-use Rattle.circles.specs.declared.Axis.TheVariants as A
 use Rattle.circles.specs.declared.Place.{Place}
-use Rattle.circles.specs.declared.Pair.{Pair}
-use Rattle.circles.specs.declared.Pair.TheVariants as Two
 use Rattle.directions.specs.Direction.{horizontal_of, vertical_of}
 
 -- a length or a percentage
@@ -56,17 +52,17 @@ down_at Ver.Top = percent 0
 down_at Ver.Bottom = percent 100000
 
 -- a part as the horizontal coordinate, and as the vertical one
-abbrev pub as_across : Part → Axis
-as_across (P.Across a) = A.At (across_at a)
-as_across (P.Down v) = A.Not
-as_across P.Center = A.At middle
-as_across (P.At c) = A.At c
+abbrev pub as_across : Part → Option Coordinate
+as_across (P.Across a) = Some (across_at a)
+as_across (P.Down v) = None
+as_across P.Center = Some middle
+as_across (P.At c) = Some c
 
-abbrev pub as_down : Part → Axis
-as_down (P.Across a) = A.Not
-as_down (P.Down v) = A.At (down_at v)
-as_down P.Center = A.At middle
-as_down (P.At c) = A.At c
+abbrev pub as_down : Part → Option Coordinate
+as_down (P.Across a) = None
+as_down (P.Down v) = Some (down_at v)
+as_down P.Center = Some middle
+as_down (P.At c) = Some c
 
 abbrev pub is_keyword : Part → Bool
 is_keyword (P.Across a) = true
@@ -85,22 +81,22 @@ one_part P.Center = place middle middle
 one_part (P.At c) = place c middle
 
 -- two axes that are both there
-abbrev pub paired : Axis → Axis → Pair
-paired (A.At x) (A.At y) = Two.At (place x y)
-paired (A.At x) A.Not = Two.Not
-paired A.Not y = Two.Not
+abbrev pub paired : Option Coordinate → Option Coordinate → Option Place
+paired (Some x) (Some y) = Some (place x y)
+paired (Some x) None = None
+paired None y = None
 
-abbrev pub or_pair : Pair → Pair → Pair
-or_pair (Two.At p) q = Two.At p
-or_pair Two.Not q = q
+abbrev pub or_pair : Option Place → Option Place → Option Place
+or_pair (Some p) q = Some p
+or_pair None q = q
 
 -- "In two parts the first is horizontal and the second vertical, but two keywords may come in either order"
-abbrev pub two_parts : Part → Part → Pair
-two_parts a b = or_pair (paired (as_across a) (as_down b)) (cond (is_keyword a && is_keyword b) (paired (as_across b) (as_down a)) Two.Not)
+abbrev pub two_parts : Part → Part → Option Place
+two_parts a b = or_pair (paired (as_across a) (as_down b)) (cond (is_keyword a && is_keyword b) (paired (as_across b) (as_down a)) None)
 
-abbrev pub placed : Pair → List ℕ → Read Place
-placed (Two.At p) l = got p l
-placed Two.Not l = refused
+abbrev pub placed : Option Place → List ℕ → Read Place
+placed (Some p) l = got p l
+placed None l = refused
 
 -- a second part, after the part a
 unfoldable pub second_of : (ℤ → ℤ) → Part → List ℕ → Read Place

@@ -1,26 +1,19 @@
-// The circle of a radial gradient, read at a cursor.
+// The circle of a radial gradient in the text.
 #![tactic(auto)]
 
-ghost use Rattle.std.specs.Prelude.{◌≡◌, drop};
+ghost use Rattle.std.specs.Prelude.{◌≡◌};
 ghost use Rattle.text.specs.Text.{after_gap};
+ghost use Rattle.text.specs.View.{view};
 ghost use Rattle.tokens.specs.Cut.{cut};
 ghost use Rattle.circles.specs.Position.{coordinate_of, part_of, across_at, down_at, as_across, as_down, is_keyword, one_part, paired, two_parts, second_of, position_of};
 ghost use Rattle.circles.specs.Circle.{extent_of, length_of, size_of, circle_first, size_first, circle_of, at_of, radial_of};
-ghost use Rattle.circles.specs.View.{view_coordinate, view_part, view_place, view_extent, view_size, view_shape};
 
-use directions::{HorizontalRead, VerticalRead};
 use gradient::{Coordinate, Extent, Horizontal, Shape, Size, Vertical};
-use text::{Cursor, Match};
-use tokens::{NumberRead, Unit};
-
-#[derive(Clone, Copy)]
-pub enum CoordinateRead {
-    Got(Coordinate, Cursor),
-    Refused,
-}
+use text::word_for;
+use tokens::Unit;
 
 // A part of a position: a word for one axis or for either, or a length or percentage.
-#[derive(Clone, Copy)]
+#[derive(Clone, Copy, Debug, PartialEq, Eq)]
 pub enum Part {
     Across(Horizontal),
     Down(Vertical),
@@ -28,91 +21,49 @@ pub enum Part {
     At(Coordinate),
 }
 
-#[derive(Clone, Copy)]
-pub enum PartRead {
-    Got(Part, Cursor),
-    Refused,
-}
-
-// A part taken along one axis, where it can be.
-#[derive(Clone, Copy)]
-pub enum Axis {
-    At(Coordinate),
-    Not,
-}
-
 // Where a circle's center is.
-#[derive(Clone, Copy)]
+#[derive(Clone, Copy, Debug, PartialEq, Eq)]
 pub struct Place {
     pub x: Coordinate,
     pub y: Coordinate,
 }
 
-// Two parts taken together, where they can be.
-#[derive(Clone, Copy)]
-pub enum Pair {
-    At(Place),
-    Not,
-}
-
-#[derive(Clone, Copy)]
-pub enum PlaceRead {
-    Got(Place, Cursor),
-    Refused,
-}
-
-#[derive(Clone, Copy)]
-pub enum ExtentRead {
-    Got(Extent, Cursor),
-    Refused,
-}
-
-#[derive(Clone, Copy)]
-pub enum SizeRead {
-    Got(Size, Cursor),
-    Refused,
-}
-
-#[derive(Clone, Copy)]
-pub enum ShapeRead {
-    Got(Shape, Cursor),
-    Refused,
-}
+const MIDDLE: Coordinate = Coordinate::Percentage(50000);
 
 // ---- the position of a circle's center
 
-fn read_coordinate(s: &[u8], c: Cursor) -> CoordinateRead
-    ensures { view_coordinate s.now result ≡ coordinate_of cut (drop c.at s.now) }
+// Kept: a match over the units, as in the readings of a size, a color stop's position and an angle. A method that gives the value in one unit
+// serves two of the four, where it saves one line.
+#[tactic(auto, unfolding(crate::specs::Position::coordinate_of))]
+fn read_coordinate(s: &[u8]) -> Option<(Coordinate, &[u8])>
+    ensures { view result ≡ coordinate_of cut s.now }
 {
-    let NumberRead::Got(n, e) = tokens::read_number(s, c) else {
-        return CoordinateRead::Refused;
-    };
-    let u = n.unit;
-    match u {
-        Unit::Length => CoordinateRead::Got(Coordinate::Length(n.value), e),
-        Unit::Percentage => CoordinateRead::Got(Coordinate::Percentage(n.value), e),
-        Unit::Angle => CoordinateRead::Refused,
+    let (n, rest) = tokens::read_number(s)?;
+    match n.unit {
+        Unit::Length => Some((Coordinate::Length(n.value), rest)),
+        Unit::Percentage => Some((Coordinate::Percentage(n.value), rest)),
+        Unit::Angle => None,
     }
 }
 
-fn read_part(s: &[u8], c: Cursor) -> PartRead
-    ensures { view_part s.now result ≡ part_of cut (drop c.at s.now) }
+#[tactic(auto, unfolding(crate::specs::Position::part_of))]
+fn read_part(s: &[u8]) -> Option<(Part, &[u8])>
+    ensures { view result ≡ part_of cut s.now }
 {
-    if let HorizontalRead::Got(a, k) = directions::read_horizontal(s, c) {
-        return PartRead::Got(Part::Across(a), k);
+    if let Some((a, rest)) = directions::read_horizontal(s) {
+        return Some((Part::Across(a), rest));
     }
-    if let VerticalRead::Got(v, k) = directions::read_vertical(s, c) {
-        return PartRead::Got(Part::Down(v), k);
+    if let Some((v, rest)) = directions::read_vertical(s) {
+        return Some((Part::Down(v), rest));
     }
-    if let Match::Past(k) = text::keyword(s, c, b"center") {
-        return PartRead::Got(Part::Center, k);
+    if let Some(found) = word_for(s, b"center", Part::Center) {
+        return Some(found);
     }
-    let CoordinateRead::Got(x, k) = read_coordinate(s, c) else {
-        return PartRead::Refused;
-    };
-    PartRead::Got(Part::At(x), k)
+    let (x, rest) = read_coordinate(s)?;
+    Some((Part::At(x), rest))
 }
 
+// Kept: a function for each axis, here and below: crate gradient names the sides of the axes by two enums, and a trait over both takes two bodies as well.
 fn across_at(a: Horizontal) -> Coordinate
     ensures { result ≡ across_at a }
 {
@@ -131,230 +82,167 @@ fn down_at(v: Vertical) -> Coordinate
     }
 }
 
-fn as_across(p: Part) -> Axis
+// A part taken along one axis, where it can be.
+// Kept: one function for both axes takes the axis as a parameter, and six arms of pairs for these eight of parts.
+fn as_across(p: Part) -> Option<Coordinate>
     ensures { result ≡ as_across p }
 {
     match p {
-        Part::Across(a) => Axis::At(across_at(a)),
-        Part::Down(_) => Axis::Not,
-        Part::Center => Axis::At(Coordinate::Percentage(50000)),
-        Part::At(x) => Axis::At(x),
+        Part::Across(a) => Some(across_at(a)),
+        Part::Down(_) => None,
+        Part::Center => Some(MIDDLE),
+        Part::At(x) => Some(x),
     }
 }
 
-fn as_down(p: Part) -> Axis
+fn as_down(p: Part) -> Option<Coordinate>
     ensures { result ≡ as_down p }
 {
     match p {
-        Part::Across(_) => Axis::Not,
-        Part::Down(v) => Axis::At(down_at(v)),
-        Part::Center => Axis::At(Coordinate::Percentage(50000)),
-        Part::At(x) => Axis::At(x),
+        Part::Across(_) => None,
+        Part::Down(v) => Some(down_at(v)),
+        Part::Center => Some(MIDDLE),
+        Part::At(x) => Some(x),
     }
 }
 
 fn is_keyword(p: Part) -> bool
     ensures { result ≡ is_keyword p }
 {
-    match p {
-        Part::Across(_) => true,
-        Part::Down(_) => true,
-        Part::Center => true,
-        Part::At(_) => false,
-    }
+    !matches!(p, Part::At(_))
 }
 
 fn one_part(p: Part) -> Place
     ensures { result ≡ one_part p }
 {
-    let middle = Coordinate::Percentage(50000);
     match p {
         Part::Across(a) => Place {
             x: across_at(a),
-            y: middle,
+            y: MIDDLE,
         },
         Part::Down(v) => Place {
-            x: middle,
+            x: MIDDLE,
             y: down_at(v),
         },
         Part::Center => Place {
-            x: middle,
-            y: middle,
+            x: MIDDLE,
+            y: MIDDLE,
         },
-        Part::At(x) => Place { x, y: middle },
+        Part::At(x) => Place { x, y: MIDDLE },
     }
 }
 
-fn pair_up(x: Axis, y: Axis) -> Pair
+fn pair_up(x: Option<Coordinate>, y: Option<Coordinate>) -> Option<Place>
     ensures { result ≡ paired x y }
 {
-    let Axis::At(a) = x else {
-        return Pair::Not;
-    };
-    let Axis::At(b) = y else {
-        return Pair::Not;
-    };
-    Pair::At(Place { x: a, y: b })
+    Some(Place { x: x?, y: y? })
 }
 
-fn two_parts(a: Part, b: Part) -> Pair
+// Two parts taken together, where they can be.
+fn two_parts(a: Part, b: Part) -> Option<Place>
     ensures { result ≡ two_parts a b }
 {
-    if let Pair::At(p) = pair_up(as_across(a), as_down(b)) {
-        return Pair::At(p);
-    }
-    if is_keyword(a) && is_keyword(b) {
+    let in_order = pair_up(as_across(a), as_down(b));
+    if in_order.is_none() && is_keyword(a) && is_keyword(b) {
         return pair_up(as_across(b), as_down(a));
     }
-    Pair::Not
+    in_order
 }
 
 // White space and a second part, after the part a.
-fn second_part(s: &[u8], c: Cursor, a: Part) -> PlaceRead
-    ensures { view_place s.now result ≡ after_gap (second_of cut a) (drop c.at s.now) }
+#[tactic(auto, unfolding(crate::specs::Position::second_of))]
+fn second_part(s: &[u8], a: Part) -> Option<(Place, &[u8])>
+    ensures { view result ≡ after_gap (second_of cut a) s.now }
 {
-    let Match::Past(k) = text::gap(s, c) else {
-        return PlaceRead::Refused;
-    };
-    let PartRead::Got(b, e) = read_part(s, k) else {
-        return PlaceRead::Refused;
-    };
-    let Pair::At(p) = two_parts(a, b) else {
-        return PlaceRead::Refused;
-    };
-    PlaceRead::Got(p, e)
+    let (b, rest) = read_part(text::gap(s)?)?;
+    Some((two_parts(a, b)?, rest))
 }
 
-fn read_position(s: &[u8], c: Cursor) -> PlaceRead
-    ensures { view_place s.now result ≡ position_of cut (drop c.at s.now) }
+#[tactic(auto, unfolding(crate::specs::Position::position_of))]
+fn read_position(s: &[u8]) -> Option<(Place, &[u8])>
+    ensures { view result ≡ position_of cut s.now }
 {
-    let PartRead::Got(a, k) = read_part(s, c) else {
-        return PlaceRead::Refused;
-    };
-    if let PlaceRead::Got(p, e) = second_part(s, k, a) {
-        return PlaceRead::Got(p, e);
-    }
-    PlaceRead::Got(one_part(a), k)
+    let (a, rest) = read_part(s)?;
+    Some(second_part(rest, a).unwrap_or((one_part(a), rest)))
 }
 
 // ---- the circle of a radial gradient
 
-fn read_extent(s: &[u8], c: Cursor) -> ExtentRead
-    ensures { view_extent s.now result ≡ extent_of (drop c.at s.now) }
+fn read_extent(s: &[u8]) -> Option<(Extent, &[u8])>
+    ensures { view result ≡ extent_of s.now }
 {
-    if let Match::Past(k) = text::keyword(s, c, b"closest-side") {
-        return ExtentRead::Got(Extent::ClosestSide, k);
-    }
-    if let Match::Past(k) = text::keyword(s, c, b"closest-corner") {
-        return ExtentRead::Got(Extent::ClosestCorner, k);
-    }
-    if let Match::Past(k) = text::keyword(s, c, b"farthest-side") {
-        return ExtentRead::Got(Extent::FarthestSide, k);
-    }
-    if let Match::Past(k) = text::keyword(s, c, b"farthest-corner") {
-        return ExtentRead::Got(Extent::FarthestCorner, k);
-    }
-    ExtentRead::Refused
+    word_for(s, b"closest-side", Extent::ClosestSide)
+        .or(word_for(s, b"closest-corner", Extent::ClosestCorner))
+        .or(word_for(s, b"farthest-side", Extent::FarthestSide))
+        .or(word_for(s, b"farthest-corner", Extent::FarthestCorner))
 }
 
-fn read_length(s: &[u8], c: Cursor) -> SizeRead
-    ensures { view_size s.now result ≡ length_of cut (drop c.at s.now) }
+#[tactic(auto, unfolding(crate::specs::Circle::length_of))]
+fn read_length(s: &[u8]) -> Option<(Size, &[u8])>
+    ensures { view result ≡ length_of cut s.now }
 {
-    let NumberRead::Got(n, e) = tokens::read_number(s, c) else {
-        return SizeRead::Refused;
-    };
-    let u = n.unit;
-    match u {
-        Unit::Length => SizeRead::Got(Size::Length(n.value), e),
-        Unit::Percentage => SizeRead::Refused,
-        Unit::Angle => SizeRead::Refused,
+    let (n, rest) = tokens::read_number(s)?;
+    match n.unit {
+        Unit::Length => Some((Size::Length(n.value), rest)),
+        Unit::Percentage | Unit::Angle => None,
     }
 }
 
-fn read_size(s: &[u8], c: Cursor) -> SizeRead
-    ensures { view_size s.now result ≡ size_of cut (drop c.at s.now) }
+#[tactic(auto, unfolding(crate::specs::Circle::size_of))]
+fn read_size(s: &[u8]) -> Option<(Size, &[u8])>
+    ensures { view result ≡ size_of cut s.now }
 {
-    if let ExtentRead::Got(e, k) = read_extent(s, c) {
-        return SizeRead::Got(Size::Extent(e), k);
+    match read_extent(s) {
+        Some((e, rest)) => Some((Size::Extent(e), rest)),
+        None => read_length(s),
     }
-    read_length(s, c)
 }
 
-// White space and a size, after the word circle.
-fn second_size(s: &[u8], c: Cursor) -> SizeRead
-    ensures { view_size s.now result ≡ after_gap (size_of cut) (drop c.at s.now) }
+#[tactic(auto, unfolding(crate::specs::Circle::circle_first))]
+fn read_circle_first(s: &[u8]) -> Option<(Size, &[u8])>
+    ensures { view result ≡ circle_first cut s.now }
 {
-    let Match::Past(k) = text::gap(s, c) else {
-        return SizeRead::Refused;
-    };
-    read_size(s, k)
+    let rest = text::keyword(s, b"circle")?;
+    let size = text::gap(rest).and_then(read_size);
+    Some(size.unwrap_or((Size::Extent(Extent::FarthestCorner), rest)))
 }
 
-fn read_circle_first(s: &[u8], c: Cursor) -> SizeRead
-    ensures { view_size s.now result ≡ circle_first cut (drop c.at s.now) }
+#[tactic(auto, unfolding(crate::specs::Circle::size_first))]
+fn read_size_first(s: &[u8]) -> Option<(Size, &[u8])>
+    ensures { view result ≡ size_first cut s.now }
 {
-    let Match::Past(k) = text::keyword(s, c, b"circle") else {
-        return SizeRead::Refused;
-    };
-    if let SizeRead::Got(z, e) = second_size(s, k) {
-        return SizeRead::Got(z, e);
-    }
-    SizeRead::Got(Size::Extent(Extent::FarthestCorner), k)
+    let (size, rest) = read_size(s)?;
+    word_for(text::gap(rest)?, b"circle", size)
 }
 
-fn read_size_first(s: &[u8], c: Cursor) -> SizeRead
-    ensures { view_size s.now result ≡ size_first cut (drop c.at s.now) }
+#[tactic(auto, unfolding(crate::specs::Circle::circle_of))]
+fn read_circle(s: &[u8]) -> Option<(Size, &[u8])>
+    ensures { view result ≡ circle_of cut s.now }
 {
-    let SizeRead::Got(z, k) = read_size(s, c) else {
-        return SizeRead::Refused;
-    };
-    let Match::Past(m) = text::gap(s, k) else {
-        return SizeRead::Refused;
-    };
-    let Match::Past(e) = text::keyword(s, m, b"circle") else {
-        return SizeRead::Refused;
-    };
-    SizeRead::Got(z, e)
+    read_circle_first(s)
+        .or_else(|| read_size_first(s))
+        .or_else(|| read_length(s))
 }
 
-fn read_circle(s: &[u8], c: Cursor) -> SizeRead
-    ensures { view_size s.now result ≡ circle_of cut (drop c.at s.now) }
+#[tactic(auto, unfolding(crate::specs::Circle::at_of))]
+fn read_at(s: &[u8]) -> Option<(Place, &[u8])>
+    ensures { view result ≡ at_of cut s.now }
 {
-    if let SizeRead::Got(z, k) = read_circle_first(s, c) {
-        return SizeRead::Got(z, k);
-    }
-    if let SizeRead::Got(z, k) = read_size_first(s, c) {
-        return SizeRead::Got(z, k);
-    }
-    read_length(s, c)
+    let rest = text::keyword(text::gap(s)?, b"at")?;
+    read_position(text::gap(rest)?)
 }
 
-fn read_at(s: &[u8], c: Cursor) -> PlaceRead
-    ensures { view_place s.now result ≡ at_of cut (drop c.at s.now) }
+#[tactic(auto, unfolding(crate::specs::Circle::radial_of))]
+pub fn read_radial(s: &[u8]) -> Option<(Shape, &[u8])>
+    ensures { view result ≡ radial_of cut s.now }
 {
-    let Match::Past(k) = text::gap(s, c) else {
-        return PlaceRead::Refused;
-    };
-    let Match::Past(m) = text::keyword(s, k, b"at") else {
-        return PlaceRead::Refused;
-    };
-    let Match::Past(n) = text::gap(s, m) else {
-        return PlaceRead::Refused;
-    };
-    read_position(s, n)
-}
-
-pub fn read_radial(s: &[u8], c: Cursor) -> ShapeRead
-    ensures { view_shape s.now result ≡ radial_of cut (drop c.at s.now) }
-{
-    let SizeRead::Got(z, k) = read_circle(s, c) else {
-        return ShapeRead::Refused;
-    };
-    if let PlaceRead::Got(p, e) = read_at(s, k) {
-        let x = p.x;
-        let y = p.y;
-        return ShapeRead::Got(Shape::Circle(z, x, y), e);
-    }
-    let middle = Coordinate::Percentage(50000);
-    ShapeRead::Got(Shape::Circle(z, middle, middle), k)
+    let (size, rest) = read_circle(s)?;
+    let (place, rest) = read_at(rest).unwrap_or((
+        Place {
+            x: MIDDLE,
+            y: MIDDLE,
+        },
+        rest,
+    ));
+    Some((Shape::Circle(size, place.x, place.y), rest))
 }

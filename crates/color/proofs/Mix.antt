@@ -20,10 +20,7 @@ module _ (x y : ℕ) (h : 0 < y) where
       le_antisymm (nearest-mono (mix p p x y) (p ⁄ 255) (omega arith) (omega arith) (omega arith))
       (nearest-mono (p ⁄ 255) (mix p p x y) (omega arith) (omega arith) (omega arith))
 
--- the products that a mix takes, and its byte
-pub mix-small : (p q x y : ℕ) → p ≤ 65025 → q ≤ 65025 → (p * y ≤ 65025 * y) × (q * x ≤ 65025 * x)
-mix-small p q x y hp hq = (mul-le-mul_right y hp, mul-le-mul_right x hq)
-
+-- the byte of a mix
 pub mix-byte : (p q x y : ℕ) → p ≤ 65025 → q ≤ 65025 → 0 < y → nearest (mix p q x y) ≤ 255
 mix-byte p q x y hp hq h = omega (arith, mix-mono x y h p q 65025 65025 hp hq, mix-same x y h 65025)
 

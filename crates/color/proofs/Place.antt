@@ -1,15 +1,14 @@
 -- The last element of a list that passes a test, and the stops around a location.
 -- Assumes nothing.
-use mathlib.Core.Path.{◌≡◌, refl, sym, ap, subst, ◌∙◌}
-use mathlib.Core.List.{List, [], ◌∷◌, ◌++◌}
+use mathlib.Core.Path.{◌≡◌, refl, sym, subst, ◌∙◌}
+use mathlib.Core.List.{List, [], ◌∷◌}
 use mathlib.Core.Bool.{Bool, true, false, cond, true≢false}
-use Prim.Native.Nat.{ℕ, zero, suc, ◌-◌, ◌≤◌, ◌<◌, zero-le, suc-le-suc}
+use Prim.Native.Nat.{ℕ, zero, suc, ◌-◌, ◌≤◌, ◌<◌, zero-le, suc-le-suc, ◌+◌}
 use native.Mathlib.Nat.{le_of_suc-le-suc, not-suc-le-zero, suc_inj, suc-ne-zero}
 use native.Mathlib.Decide.{dec_le}
 use native.Mathlib.Omega.{arith}
 use lib.Dec.{eqb, leb}
-use lib.ListN.{length, get_or, take}
-use lib.Seq.{take-suc, length-take-le}
+use lib.ListN.{length, get_or}
 use borrow.Author.Tests.{eqb-false, le-leb, lt-leb}
 use Rattle.color.specs.Stop.{Stop, no_stop, Location, Around, single, pair, at_or_below, placed, last_place, around_place, around}
 use Rattle.color.specs.Lent.{last_up_to}
@@ -109,27 +108,13 @@ pub view : (stops : List Stop) (t : Location) → View stops t (around stops t)
 unfolding around
 view stops t = view-at stops t (last_place (λ a. at_or_below t a.position) stops) (last (λ a. at_or_below t a.position) no_stop stops)
 
--- ---- a loop from the end
--- one element more at the end
-last_snoc : {A : Type 0} (f : A → Bool) (l : List A) (a : A) (b : Bool) → f a ≡ b → last_place f (l ++ (a ∷ [])) ≡ cond b (suc (length l)) (last_place f l)
-unfolding last_place
-last_snoc f [] a true e = ap (λ (b : Bool). placed b 0) e
-last_snoc f [] a false e = ap (λ (b : Bool). placed b 0) e
-last_snoc f (x ∷ l) a true e = ap (placed (f x)) (last_snoc f l a true e)
-last_snoc f (x ∷ l) a false e = ap (placed (f x)) (last_snoc f l a false e)
+-- the last position at or below `at`, those after it counted from the end, and none
+pub last_at : (ps : List ℕ) (at i : ℕ) → i < length ps → get_or ps i 0 ≤ at
+    → ((k : ℕ) → k < length ps - 1 - i → at < get_or ps (length ps - 1 - k) 0) → i + 1 ≡ last_up_to ps at
+last_at ps at i l here after =
+    last-is ps at (i + 1) (omega arith)
+    (λ j e. let same : i ≡ j = omega arith in rw (← same) here)
+    (λ j m n. let k : length ps - 1 - (length ps - 1 - j) ≡ j = omega arith in rw k at (after (length ps - 1 - j) (omega arith)))
 
-module _ (ps : List ℕ) (at k : ℕ) (some : 0 < k) (h : k ≤ length ps) where
-  step : (b : Bool) → leb (get_or ps (k - 1) 0) at ≡ b → last_up_to (take k ps) at ≡ cond b (suc (length (take (k - 1) ps))) (last_up_to (take (k - 1) ps) at)
-  step b e =
-      let n : k ≡ suc (k - 1) = omega arith in
-      let i : k - 1 < length ps = omega arith in
-      ap (λ (m : ℕ). last_up_to (take m ps) at) n
-      ∙ rw (take-suc ps (k - 1) 0 i) (last_snoc (λ (p : ℕ). leb p at) (take (k - 1) ps) (get_or ps (k - 1) 0) b e)
-
-  -- where the last of the first k is at or below, it is that one
-  pub last-here : get_or ps (k - 1) 0 ≤ at → last_up_to (take k ps) at ≡ k
-  last-here p = omega (arith, step true (le-leb (get_or ps (k - 1) 0) at p), length-take-le (k - 1) ps (omega arith))
-
-  -- where it is above, it is none
-  pub last-before : at < get_or ps (k - 1) 0 → last_up_to (take k ps) at ≡ last_up_to (take (k - 1) ps) at
-  last-before p = step false (lt-leb (get_or ps (k - 1) 0) at p)
+pub none_up_to : (ps : List ℕ) (at : ℕ) → ((j : ℕ) → j < length ps → at < get_or ps j 0) → 0 ≡ last_up_to ps at
+none_up_to ps at above = last-is ps at 0 zero-le (λ j e. absurd (omega (arith, e))) (λ j m n. above j n)

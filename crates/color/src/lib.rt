@@ -19,7 +19,7 @@ use numbers::biased;
 use stops::PlacedStops;
 
 // A pixel's four bytes, premultiplied.
-#[derive(Clone, Copy)]
+#[derive(Clone, Copy, Debug, PartialEq, Eq)]
 pub struct Rgba {
     pub red: u8,
     pub green: u8,
@@ -33,17 +33,14 @@ pub struct Rgba {
 pub const ONE: u64 = 18014398509481984;
 
 // The place, counted from 1, of the last position at or below `at`; 0 where none is.
+#[tactic(auto, using(crate::proofs::Place::last_at, crate::proofs::Place::none_up_to))]
 pub fn last_up_to(positions: &[u32], at: u64) -> usize
     ensures { result ≡ last_up_to positions.now at }
 {
-    let mut place = positions.len();
-    while 0 < place {
-        if (positions[place - 1] as u64) <= at {
-            return place;
-        }
-        place -= 1;
+    match positions.iter().rposition(|p| u64::from(*p) <= at) {
+        Some(i) => i + 1,
+        None => 0,
     }
-    0
 }
 
 // A stop's own byte: P / 255 to the nearest whole, halves up.
@@ -69,10 +66,8 @@ fn quotient(n: u64, d: u64, inverse: u64) -> u64
 {
     let k = n * inverse / ONE;
     let e = k * d;
-    if e <= n {
-        if n < e + d {
-            return k;
-        }
+    if e <= n && n < e + d {
+        return k;
     }
     n / d
 }
@@ -104,6 +99,7 @@ fn mix_channel(values: &[u32], k: usize, m: usize, x: u32, y: u32, inverse: u64)
 }
 
 // The bytes of stop i.
+// Kept: four calls, here and below. A closure that gives the byte of channel c would have to repeat the function's `requires`, beside c < 4.
 fn at_stop(values: &[u32], i: usize) -> Rgba
     requires { (4 * i + 3 < length values.now) × Small values.now }
     ensures { result ≡ rgba (λ (c : Channel). nearest (values_at values.now i c ⁄ 255)) }
@@ -167,10 +163,8 @@ fn pairs_sum(values: &[u32], c: usize, n: usize) -> u32
     ensures { (result ≡ pairs_sum values.now c 0 (n - 1)) × (result ≤ 130050 * (n - 1)) }
 {
     let mut sum: u32 = 0;
-    let mut i: usize = 0;
-    while i + 1 < n {
+    for i in 0..n - 1 {
         sum += values[4 * i + c] + values[4 * (i + 1) + c];
-        i += 1;
     }
     sum
 }
@@ -204,30 +198,29 @@ pub fn store_positions(words: &mut [u32], at: usize, p: PlacedStops)
     requires { Lendable p × (at + p.count ≤ length words.old) }
     ensures { words.new ≡ patched words.old at (positions_of (placed_of p)) }
 {
-    let n = p.count as usize;
-    let mut i: usize = 0;
-    while i < n {
-        let s = p.stops[i];
-        words[at + i] = biased(s.position);
-        i += 1;
+    for i in 0..p.count as usize {
+        words[at + i] = biased(p.stops[i].position);
     }
 }
 
 fn premultiply(c: u8, a: u8) -> u32
     ensures { result ≡ c * a }
 {
-    (c as u32) * (a as u32)
+    u32::from(c) * u32::from(a)
 }
 
 // Stores the four values of a color from `at` on.
+#[tactic(auto, unfolding(crate::specs::Stop::premultiplied))]
 fn store_color(words: &mut [u32], at: usize, c: Color)
     requires { at + 4 ≤ length words.old }
     ensures { words.new ≡ patched words.old at (four_of c []) }
 {
-    words[at] = premultiply(c.red, c.alpha);
-    words[at + 1] = premultiply(c.green, c.alpha);
-    words[at + 2] = premultiply(c.blue, c.alpha);
-    words[at + 3] = premultiply(255, c.alpha);
+    words[at..at + 4].copy_from_slice(&[
+        premultiply(c.red, c.alpha),
+        premultiply(c.green, c.alpha),
+        premultiply(c.blue, c.alpha),
+        premultiply(255, c.alpha),
+    ]);
 }
 
 // Stores the four values of a stop that has these bytes, from `at` on.
@@ -235,10 +228,12 @@ pub fn store_bytes(words: &mut [u32], at: usize, p: Rgba)
     requires { at + 4 ≤ length words.old }
     ensures { words.new ≡ patched words.old at (values_for p) }
 {
-    words[at] = 255 * (p.red as u32);
-    words[at + 1] = 255 * (p.green as u32);
-    words[at + 2] = 255 * (p.blue as u32);
-    words[at + 3] = 255 * (p.alpha as u32);
+    words[at..at + 4].copy_from_slice(&[
+        255 * u32::from(p.red),
+        255 * u32::from(p.green),
+        255 * u32::from(p.blue),
+        255 * u32::from(p.alpha),
+    ]);
 }
 
 // Stores the values of the stops from `at` on.
@@ -246,11 +241,7 @@ pub fn store_values(words: &mut [u32], at: usize, p: PlacedStops)
     requires { (p.count ≤ 16) × (at + 4 * p.count ≤ length words.old) }
     ensures { (words.new ≡ patched words.old at (values_of (placed_of p))) × AllBytes (placed_of p) }
 {
-    let n = p.count as usize;
-    let mut i: usize = 0;
-    while i < n {
-        let s = p.stops[i];
-        store_color(words, at + 4 * i, s.color);
-        i += 1;
+    for i in 0..p.count as usize {
+        store_color(words, at + 4 * i, p.stops[i].color);
     }
 }

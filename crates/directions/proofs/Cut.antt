@@ -10,7 +10,7 @@ use Rattle.gradient.specs.declared.Direction.{Direction}
 use Rattle.gradient.specs.declared.Direction.TheVariants as D
 use Rattle.text.specs.Text.{bytes, Read, ◌>>=◌, map_read, keyword_of, after_gap}
 use Rattle.text.proofs.Laws.{map-bind, map-inside, map-or}
-use Rattle.text.proofs.Whole.{map-gap}
+use Rattle.text.proofs.WholeTexts.{map-gap}
 use Rattle.tokens.specs.declared.Unit.{Unit}
 use Rattle.tokens.specs.declared.Unit.TheVariants as U
 use Rattle.tokens.specs.Number.{number_of, exact}

@@ -1,3 +1,2 @@
 pub mod Direction
-pub mod View
 pub mod Worked

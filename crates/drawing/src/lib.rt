@@ -2,6 +2,7 @@
 #![tactic(auto)]
 
 ghost use Rattle.std.specs.Prelude.{◌≡◌, ◌*◌, ◌<◌, length};
+ghost use Rattle.replies.specs.Refused.{reply_of};
 ghost use Rattle.gradient.specs.Check.{Accepted};
 ghost use Rattle.line.specs.Box.{Box};
 ghost use Rattle.line.specs.Line.{rule_of};
@@ -16,20 +17,16 @@ ghost use Rattle.drawing.specs.Inner.{Painted};
 
 use gradient::Gradient;
 use line::Line;
-use replies::DONE;
+use replies::Refusal;
 use rows::Strip;
 use stops::PlacedStops;
-
-fn no_ramp() -> [u32; ramp::HEAD] {
-    [0u32; ramp::HEAD]
-}
 
 // Draws a strip of the picture that placed stops color, repeated or not, then zeros.
 fn draw_placed(l: Line, p: PlacedStops, repeating: bool, z: Strip, buf: &mut [u8])
     requires { Placed l z.w z.h × Lendable p × (1 < p.count) × Rows z (length buf.old) }
     ensures { Painted (rule_in l z.w z.h) repeating (placed_of p) z.w z.a z.b buf.old buf.new }
 {
-    let mut stops = no_ramp();
+    let mut stops = [0u32; ramp::HEAD];
     ramp::set_stops(&mut stops, p, repeating);
     strips::draw(&stops, l, z, buf);
     picture::clear_from(buf, 4 * z.w * (z.b - z.a));
@@ -46,13 +43,19 @@ pub fn draw_strip(g: Gradient, z: Strip, buf: &mut [u8])
     draw_placed(l, p, g.repeating, z, buf);
 }
 
-fn gradient_reply(g: Gradient, w: usize, h: usize, a: usize, b: usize, n: usize) -> u32
-    ensures { result ≡ gradient_rows_reply g w h a b n }
+// Judges a strip and its buffer, then the gradient.
+#[tactic(auto, using(replies::proofs::Laws::refused_first, replies::proofs::Laws::done_next))]
+fn gradient_reply(
+    g: Gradient,
+    w: usize,
+    h: usize,
+    a: usize,
+    b: usize,
+    n: usize,
+) -> Result<(), Refusal>
+    ensures { reply_of result ≡ gradient_rows_reply g w h a b n }
 {
-    let r = replies::strip_reply(w, h, a, b, n);
-    if r != DONE {
-        return r;
-    }
+    replies::strip_reply(w, h, a, b, n)?;
     gradient::check(g)
 }
 
@@ -64,47 +67,50 @@ pub fn draw_gradient_rows(
     a: usize,
     b: usize,
     buf: &mut [u8],
-) -> u32
+) -> Result<(), Refusal>
     ensures { DrawnRows (gradient_rows_reply g w h a b (length buf.old)) (rule_of g.shape w h) (gradient_paint g w h) w a b
-        result buf.old buf.new }
+        (reply_of result) buf.old buf.new }
 {
-    let r = gradient_reply(g, w, h, a, b, buf.len());
-    if r != DONE {
-        return replies::refuse(buf, r);
+    if let Err(refusal) = gradient_reply(g, w, h, a, b, buf.len()) {
+        return Err(replies::refuse(buf, refusal));
     }
     draw_strip(g, Strip { w, h, a, b }, buf);
-    DONE
+    Ok(())
 }
 
 // Draws a gradient.
-pub fn draw_gradient(g: Gradient, w: usize, h: usize, buf: &mut [u8]) -> u32
+pub fn draw_gradient(g: Gradient, w: usize, h: usize, buf: &mut [u8]) -> Result<(), Refusal>
     ensures { Drawn (gradient_reply g w h (length buf.old)) (rule_of g.shape w h) (gradient_paint g w h) w h
-        result buf.old buf.new }
+        (reply_of result) buf.old buf.new }
 {
     draw_gradient_rows(g, w, h, 0, h, buf)
 }
 
-fn stops_reply(g: Gradient, p: PlacedStops, w: usize, h: usize, n: usize) -> u32
-    ensures { result ≡ stops_reply g p w h n }
+// Judges a box and its buffer, then the gradient beside the placed stops.
+#[tactic(auto, using(replies::proofs::Laws::refused_first, replies::proofs::Laws::done_next))]
+fn stops_reply(g: Gradient, p: PlacedStops, w: usize, h: usize, n: usize) -> Result<(), Refusal>
+    ensures { reply_of result ≡ stops_reply g p w h n }
 {
-    let r = replies::room_reply(w, h, n);
-    if r != DONE {
-        return r;
-    }
+    replies::room_reply(w, h, n)?;
     replies::lower(gradient::check(g), stops::check_placed(p))
 }
 
 // Draws placed stops along a gradient's direction, or from its circle's center, repeated where the gradient repeats.
-pub fn draw_stops(g: Gradient, p: PlacedStops, w: usize, h: usize, buf: &mut [u8]) -> u32
+pub fn draw_stops(
+    g: Gradient,
+    p: PlacedStops,
+    w: usize,
+    h: usize,
+    buf: &mut [u8],
+) -> Result<(), Refusal>
     ensures { Drawn (stops_reply g p w h (length buf.old)) (rule_of g.shape w h) (stops_paint g p) w h
-        result buf.old buf.new }
+        (reply_of result) buf.old buf.new }
 {
-    let r = stops_reply(g, p, w, h, buf.len());
-    if r != DONE {
-        return replies::refuse(buf, r);
+    if let Err(refusal) = stops_reply(g, p, w, h, buf.len()) {
+        return Err(replies::refuse(buf, refusal));
     }
     let shape = g.shape;
     let l = line::line_of(shape, w, h);
     draw_placed(l, p, g.repeating, Strip { w, h, a: 0, b: h }, buf);
-    DONE
+    Ok(())
 }

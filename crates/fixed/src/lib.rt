@@ -2,7 +2,7 @@
 // of a place is the location, unless the next whole number is so near that the error may reach it; there the exact rule decides.
 #![tactic(auto)]
 
-ghost use Rattle.std.specs.Prelude.{◌≡◌, ℕ, ◌+◌, ◌*◌, ◌<◌, ◌≤◌, true};
+ghost use Rattle.std.specs.Prelude.{◌≡◌, ℕ, ◌+◌, ◌*◌, ◌<◌, ◌≤◌, true, IsTrue, ◌↔◌};
 ghost use Rattle.line.specs.Box.{Box};
 ghost use Rattle.line.specs.Location.{location_by};
 ghost use Rattle.line.specs.Represented.{Bounded, odd_of, rule_in};
@@ -29,7 +29,7 @@ const HIGH_FACTOR: u64 = 17179869184;
 const LOW_FACTOR: u64 = 67108864;
 
 // How far half a pixel across and half a pixel down go along the line, in units, in fixed point.
-#[derive(Clone, Copy)]
+#[derive(Clone, Copy, Debug, PartialEq, Eq)]
 pub struct Steps {
     pub across: u64,
     pub down: u64,
@@ -49,8 +49,8 @@ pub fn steps_of(v: SignedVector) -> Steps
     requires { Bounded v }
     ensures { Steady result v }
 {
-    let x = v.x as u64;
-    let y = v.y as u64;
+    let x = u64::from(v.x);
+    let y = u64::from(v.y);
     let n = x * x + y * y;
     Steps {
         across: half_step(x, n),
@@ -59,7 +59,7 @@ pub fn steps_of(v: SignedVector) -> Steps
 }
 
 // The places of a row's pixels: that of pixel i is first + forth·i − back·i, where forth or back is 0.
-#[derive(Clone, Copy)]
+#[derive(Clone, Copy, Debug, PartialEq, Eq)]
 pub struct RowLine {
     pub first: u64,
     pub forth: u64,
@@ -100,52 +100,43 @@ pub fn place(r: RowLine, i: usize) -> u64
 pub fn step(r: RowLine) -> u64
     ensures { Advances r result }
 {
-    std::num::wrapping_sub_u64(r.forth, r.back)
+    r.forth.wrapping_sub(r.back)
 }
 
 // The location of pixel (i, j), in units.
-pub fn location(r: RowLine, v: SignedVector, w: usize, h: usize, i: usize, j: usize) -> u64
+pub fn location(r: RowLine, v: SignedVector, w: usize, h: usize, i: usize, j: usize) -> u32
     requires { AlongRow r v w h j × (i < w) }
     ensures { result ≡ location_by (rule_in (Line.Straight v) w h) i j }
 {
     let e = place(r, i);
     if e % ONE < DECIDING {
-        return e / ONE;
+        return (e / ONE) as u32;
     }
-    line::location(Line::Straight(v), w, h, i, j, (e / ONE) as u32)
-}
-
-// The same in 32 bits.
-pub fn locate(r: RowLine, v: SignedVector, w: usize, h: usize, i: usize, j: usize) -> u32
-    requires { AlongRow r v w h j × (i < w) }
-    ensures { result ≡ location_by (rule_in (Line.Straight v) w h) i j }
-{
-    location(r, v, w, h, i, j) as u32
+    line::location(Line::Straight(v), w, h, i, j, (e / ONE) as u32) as u32
 }
 
 // ---- many places at once
 
-// 0 where the digits of a place with this low half decide its whole part, else 1.
-fn undecided(low: u32) -> u32
-    ensures { (result ≤ 1) × (result ≡ 0 → Decided low) }
+// Whether the digits of a place with this low half decide its whole part.
+fn is_decided(low: u32) -> bool
+    ensures { IsTrue result ↔ Decided low }
 {
-    if low % LOW_ONE < LOW_DECIDING { 0 } else { 1 }
+    low % LOW_ONE < LOW_DECIDING
 }
 
-// Whether the digits of all n places decide their whole parts, where the first has this low half.
+// Whether the digits of all n places decide their whole parts, where the first has this low half. Those that do not are counted, and the loop is not left
+// at the first: so the compiler does several at a time.
 fn all_decided(low: u32, step: u32, n: usize) -> bool
     requires { n ≤ 2048 }
     ensures { result ≡ true → (k : ℕ) → k < n → Decided (low + step * k) }
 {
-    let mut k = 0;
     let mut l = low;
-    let mut count: u32 = 0;
-    while k < n {
-        count += undecided(l);
-        l = std::num::wrapping_add_u32(l, step);
-        k += 1;
+    let mut undecided = 0;
+    for _ in 0..n {
+        undecided += u32::from(!is_decided(l));
+        l = l.wrapping_add(step);
     }
-    count == 0
+    undecided == 0
 }
 
 // Whether a table of `size` entries from `base` on has the whole part of a place.
@@ -153,11 +144,8 @@ fn is_in_table(e: u64, base: u32, size: usize) -> bool
     ensures { result ≡ true → FloorInTable base size e }
 {
     let q = e / ONE;
-    let first = base as u64;
-    if q < first {
-        return false;
-    }
-    q - first < (size as u64)
+    let first = u64::from(base);
+    first <= q && q - first < size as u64
 }
 
 // Whether the digits of n places from pixel i on decide their whole parts, and a table of `size` entries from `base` on has all of these.
@@ -166,11 +154,7 @@ pub fn floors_certain(r: RowLine, i: usize, n: usize, base: u32, size: usize) ->
     ensures { result ≡ true → (k : ℕ) → k < n → Certain base size (place_at r (i + k)) }
 {
     let e = place(r, i);
-    if !is_in_table(e, base, size) {
-        return false;
-    }
-    if !is_in_table(place(r, i + (n - 1)), base, size) {
-        return false;
-    }
-    all_decided(numbers::low_half(e), numbers::low_half(step(r)), n)
+    is_in_table(e, base, size)
+        && is_in_table(place(r, i + (n - 1)), base, size)
+        && all_decided(numbers::low_half(e), numbers::low_half(step(r)), n)
 }

@@ -6,9 +6,8 @@ use Rattle.replies.specs.Room.{box_reply, strip_reply, room_reply}
 use Rattle.line.specs.Line.{rule_of}
 use Rattle.line.specs.Location.{Rule}
 use Rattle.reader.specs.Reading.{read_of}
-use Rattle.placing.specs.declared.Placing.{Placing}
 use Rattle.placing.specs.Placed.{placed_in, listed}
-use Rattle.placing.specs.Reply.{handed_out}
+use Rattle.placing.specs.Reply.{Placing, handed_out}
 use Rattle.color.specs.Paint.{Paint}
 use Rattle.drawing.specs.Drawn.{gradient_paint}
 

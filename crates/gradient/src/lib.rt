@@ -2,14 +2,15 @@
 #![tactic(auto)]
 
 ghost use Rattle.std.specs.Prelude.{◌≡◌};
-ghost use Rattle.gradient.specs.Blank.{blank_stop, blank_gradient, is_clear, is_auto, is_blank};
+ghost use Rattle.replies.specs.Refused.{reply_of};
+ghost use Rattle.gradient.specs.Blank.{blank_stop, blank_gradient, is_clear, is_blank};
 ghost use Rattle.gradient.specs.Range.{length_in, radius_in, percentage_in, angle_in, position_in, coordinate_in, direction_in, size_in, shape_in};
-ghost use Rattle.gradient.specs.Check.{blank_past, stops_in, check_of};
+ghost use Rattle.gradient.specs.Check.{stops_of, blank_past, stops_in, check_of};
 
 use numbers::magnitude;
-use replies::{DONE, MALFORMED, OUT_OF_RANGE, TOO_MANY_STOPS};
+use replies::Refusal;
 
-#[derive(Clone, Copy)]
+#[derive(Clone, Copy, Debug, PartialEq, Eq)]
 pub struct Color {
     pub red: u8,
     pub green: u8,
@@ -18,20 +19,20 @@ pub struct Color {
 }
 
 // Where a stop stands: nowhere yet (document 01's unplaced), at a length in px, or at a percentage.
-#[derive(Clone, Copy)]
+#[derive(Clone, Copy, Debug, PartialEq, Eq)]
 pub enum Position {
     Auto,
     Length(i32),
     Percentage(i32),
 }
 
-#[derive(Clone, Copy)]
+#[derive(Clone, Copy, Debug, PartialEq, Eq)]
 pub struct Stop {
     pub color: Color,
     pub position: Position,
 }
 
-#[derive(Clone, Copy)]
+#[derive(Clone, Copy, Debug, PartialEq, Eq)]
 pub enum Side {
     Top,
     Right,
@@ -39,27 +40,27 @@ pub enum Side {
     Left,
 }
 
-#[derive(Clone, Copy)]
+#[derive(Clone, Copy, Debug, PartialEq, Eq)]
 pub enum Vertical {
     Top,
     Bottom,
 }
 
-#[derive(Clone, Copy)]
+#[derive(Clone, Copy, Debug, PartialEq, Eq)]
 pub enum Horizontal {
     Left,
     Right,
 }
 
 // The direction of a linear gradient. An angle is in degrees.
-#[derive(Clone, Copy)]
+#[derive(Clone, Copy, Debug, PartialEq, Eq)]
 pub enum Direction {
     Side(Side),
     Corner(Vertical, Horizontal),
     Angle(i32),
 }
 
-#[derive(Clone, Copy)]
+#[derive(Clone, Copy, Debug, PartialEq, Eq)]
 pub enum Extent {
     ClosestSide,
     ClosestCorner,
@@ -68,20 +69,20 @@ pub enum Extent {
 }
 
 // The size of a circle: an extent, or its radius in px.
-#[derive(Clone, Copy)]
+#[derive(Clone, Copy, Debug, PartialEq, Eq)]
 pub enum Size {
     Extent(Extent),
     Length(i32),
 }
 
 // One coordinate of a circle's center, from the left or from the top.
-#[derive(Clone, Copy)]
+#[derive(Clone, Copy, Debug, PartialEq, Eq)]
 pub enum Coordinate {
     Length(i32),
     Percentage(i32),
 }
 
-#[derive(Clone, Copy)]
+#[derive(Clone, Copy, Debug, PartialEq, Eq)]
 pub enum Shape {
     Linear(Direction),
     Circle(Size, Coordinate, Coordinate),
@@ -89,12 +90,22 @@ pub enum Shape {
 
 // The color stops are the first `count` places of the array, and the places after them are blank. A repeating gradient is one of
 // `repeating-linear-gradient()` or `repeating-radial-gradient()`.
-#[derive(Clone, Copy)]
+// Kept: the count beside the array, since memory is fixed, and since `check` answers about values with another count or with places that are not blank.
+#[derive(Clone, Copy, Debug, PartialEq, Eq)]
 pub struct Gradient {
     pub shape: Shape,
     pub repeating: bool,
     pub count: u32,
     pub stops: [Stop; 16],
+}
+
+impl Gradient {
+    // The color stops in their order; the first 16 where the count is above 16.
+    pub fn stops(&self) -> &[Stop]
+        ensures { result.now ≡ stops_of self.now }
+    {
+        &self.stops[..(self.count as usize).min(16)]
+    }
 }
 
 // ---- blank
@@ -131,24 +142,14 @@ pub fn blank_gradient() -> Gradient
 pub fn is_clear(c: Color) -> bool
     ensures { result ≡ is_clear c }
 {
-    c.red == 0 && (c.green == 0 && (c.blue == 0 && c.alpha == 0))
+    c == blank_stop().color
 }
 
-fn is_auto(p: Position) -> bool
-    ensures { result ≡ is_auto p }
-{
-    match p {
-        Position::Auto => true,
-        Position::Length(_) => false,
-        Position::Percentage(_) => false,
-    }
-}
-
+#[tactic(auto, unfolding(crate::specs::Blank::is_blank))]
 fn is_blank(s: Stop) -> bool
     ensures { result ≡ is_blank s }
 {
-    let p = s.position;
-    is_clear(s.color) && is_auto(p)
+    s == blank_stop()
 }
 
 // ---- ranges
@@ -216,6 +217,7 @@ fn size_in(s: Size) -> bool
     }
 }
 
+#[tactic(auto, unfolding(crate::specs::Range::shape_in))]
 pub fn shape_in(s: Shape) -> bool
     ensures { result ≡ shape_in s }
 {
@@ -231,44 +233,29 @@ pub fn shape_in(s: Shape) -> bool
 fn blank_past(g: Gradient) -> bool
     ensures { result ≡ blank_past g }
 {
-    let mut i = g.count as usize;
-    while i < 16 {
-        let s = g.stops[i];
-        if !is_blank(s) {
-            return false;
-        }
-        i += 1;
-    }
-    true
+    g.stops.iter().skip(g.count as usize).all(|s| is_blank(*s))
 }
 
 // Whether the number of every stop is in its range.
 fn stops_in(g: Gradient) -> bool
     ensures { result ≡ stops_in g }
 {
-    let n = g.count as usize;
-    let mut i: usize = 0;
-    while i < 16 && i < n {
-        let s = g.stops[i];
-        let p = s.position;
-        if !position_in(p) {
-            return false;
-        }
-        i += 1;
-    }
-    true
+    g.stops().iter().all(|s| position_in(s.position))
 }
 
-// The reply to a gradient that is handed in.
-pub fn check(g: Gradient) -> u32
-    ensures { result ≡ check_of g }
+// Judges a gradient that is handed in.
+#[tactic(auto, unfolding(crate::specs::Check::check_of))]
+pub fn check(g: Gradient) -> Result<(), Refusal>
+    ensures { reply_of result ≡ check_of g }
 {
     if g.count < 2 || !blank_past(g) {
-        return MALFORMED;
+        return Err(Refusal::Malformed);
     }
-    let s = g.shape;
-    if !shape_in(s) || !stops_in(g) {
-        return OUT_OF_RANGE;
+    if !shape_in(g.shape) || !stops_in(g) {
+        return Err(Refusal::OutOfRange);
     }
-    if g.count <= 16 { DONE } else { TOO_MANY_STOPS }
+    if 16 < g.count {
+        return Err(Refusal::TooManyStops);
+    }
+    Ok(())
 }

@@ -13,7 +13,7 @@ use Rattle.text.specs.Text.{Read, got, refused}
 use Rattle.tokens.specs.Number.{exact}
 use Rattle.gradient.specs.Lists.{all}
 use Rattle.gradient.specs.Range.{shape_in, stop_in}
-use Rattle.reader.specs.declared.Reading.{Reading}
+use Rattle.reader.specs.Reading.{Reading}
 use Rattle.reader.specs.Written.{Written}
 use Rattle.reader.specs.Text.{gradient_of}
 use Rattle.reader.specs.Reading as R

@@ -152,7 +152,7 @@ reads-color (b ∷ l) = go (is "#" b) refl
 
 -- ---- complete
 low-hex : (k : List ℕ) → peek_of k ≤ 32 → is_hex (peek_of k) ≡ false
-low-hex k h = sym (hex-below (peek_of k) (omega arith) (omega arith))
+low-hex k h = sym (hex-below (peek_of k) (omega arith))
 
 hex-reads : {d : List ℕ} {v : Color} (k : List ℕ) → peek_of k ≤ 32 → Every (Is is_hex) d → got v k ≡ hex_color (length d) (d ++ k) k
     → got v k ≡ color_of (code "#" ∷ (d ++ k))

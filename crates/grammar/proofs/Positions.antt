@@ -4,6 +4,7 @@ use mathlib.Core.List.{List, [], ◌++◌, append_assoc, append-nil}
 use Prim.Native.Nat.{ℕ, ◌≤◌, ◌<◌}
 use native.Mathlib.Omega.{arith}
 use lib.IntN.{ℤ}
+use Rattle.std.specs.Prelude.{Option, Some, None}
 use Rattle.text.specs.Text.{lower, peek_of, keyword_of, Read, got, refused, ◌>>=◌}
 use Rattle.text.proofs.Laws.{bind-got, bind-refused, or-first, or-second}
 use Rattle.gradient.specs.declared.Vertical.{Vertical}
@@ -19,10 +20,7 @@ use Rattle.tokens.specs.Color.{begins}
 use Rattle.directions.specs.Direction.{horizontal_of, vertical_of}
 use Rattle.circles.specs.declared.Part.{Part}
 use Rattle.circles.specs.declared.Part.TheVariants as P
-use Rattle.circles.specs.declared.Axis.TheVariants as A
 use Rattle.circles.specs.declared.Place.{Place}
-use Rattle.circles.specs.declared.Pair.{Pair}
-use Rattle.circles.specs.declared.Pair.TheVariants as Two
 use Rattle.circles.specs.Position.{as_coordinate, coordinate_of, part_of, across_at, down_at, as_across, as_down, place, middle, one_part, two_parts, placed, second_of, position_of}
 use Rattle.stoplist.specs.View.{not_comma}
 use Rattle.grammar.specs.Words.{Every, Gap, Space, Word, OneOf, one}
@@ -76,9 +74,9 @@ alone (PartText.center h) = PositionText.horizontal (AcrossText.keyword (one Acr
 alone (PartText.at h) = PositionText.horizontal (AcrossText.amount h)
 
 -- two parts are a position of the grammar, where they are one
-data Judged (l : List ℕ) : Pair → Type 0 where
-  position : {p : Place} → Placed l p → Judged l (Two.At p)
-  neither : Judged l Two.Not
+data Judged (l : List ℕ) : Option Place → Type 0 where
+  position : {p : Place} → Placed l p → Judged l (Some p)
+  neither : Judged l None
 
 judged : {w g v : List ℕ} {a b : Part} → PartText w a → Gap g → PartText v b → Judged (w ++ (g ++ v)) (two_parts a b)
 judged (PartText.across x) g (PartText.across y) = neither
@@ -103,14 +101,14 @@ judged (PartText.at x) g (PartText.at y) = position (PositionText.both (AcrossTe
 
 -- a second part b behind the first, a, with what the two are
 data Second (a : Part) : List ℕ → Place → Type 0 where
-  second : {l : List ℕ} {b : Part} {p : Place} → PartText l b → two_parts a b ≡ Two.At p → Second a l p
+  second : {l : List ℕ} {b : Part} {p : Place} → PartText l b → two_parts a b ≡ Some p → Second a l p
 
 as-second : {l : List ℕ} {a : Part} {r : Read Part} → Reads PartText l r → Reads (Second a) l (r >>= λ b e. placed (two_parts a b) e)
 as-second {l} {a} (some {a = b} {k} v q e) = go (two_parts a b) refl
   where
-    go : (t : Pair) → two_parts a b ≡ t → Reads (Second a) l (placed t k)
-    go (Two.At p) h = some v (second q h) e
-    go Two.Not h = nothing
+    go : (t : Option Place) → two_parts a b ≡ t → Reads (Second a) l (placed t k)
+    go (Some p) h = some v (second q h) e
+    go None h = nothing
 as-second nothing = nothing
 
 pub reads-position : (l : List ℕ) → Reads Placed l (position_of exact l)
@@ -122,7 +120,7 @@ reads-position l =
     (some {a = one_part a} [] (rw (append-nil w) (alone h)) refl))
     (reads-part l)
   where
-    is-position : {l : List ℕ} {t : Pair} {p : Place} → t ≡ Two.At p → Judged l t → Placed l p
+    is-position : {l : List ℕ} {t : Option Place} {p : Place} → t ≡ Some p → Judged l t → Placed l p
     is-position {p = r} e (position {p} q) = let z : p ≡ r = cc in rw z at q
     is-position e neither = absurd (let z : ◌≡◌ {A = ℕ} 0 1 = cc in omega arith)
 
@@ -166,19 +164,19 @@ no_part = bind-refused _ (bind-refused _ no_number)
 -- a position of the grammar as reading takes it: one part, or two
 data Read-as : List ℕ → Place → Type 0 where
   one-part : {l : List ℕ} {a : Part} → PartText l a → Read-as l (one_part a)
-  two-parts : {l g m : List ℕ} {a b : Part} {p : Place} → PartText l a → Gap g → PartText m b → two_parts a b ≡ Two.At p → Read-as (l ++ (g ++ m)) p
+  two-parts : {l g m : List ℕ} {a b : Part} {p : Place} → PartText l a → Gap g → PartText m b → two_parts a b ≡ Some p → Read-as (l ++ (g ++ m)) p
 
 -- a horizontal part, a vertical one, and keywords of either axis
 record HorizontalPart (l : List ℕ) (x : Coordinate) : Type 0 where
   part : Part
   text : PartText l part
-  is : as_across part ≡ A.At x
+  is : as_across part ≡ Some x
   alone : one_part part ≡ place x middle
 
 record VerticalPart (l : List ℕ) (y : Coordinate) : Type 0 where
   part : Part
   text : PartText l part
-  is : as_down part ≡ A.At y
+  is : as_down part ≡ Some y
 
 horizontal-part : {l : List ℕ} {x : Coordinate} → AcrossText l x → HorizontalPart l x
 horizontal-part (AcrossText.keyword (one Across.left w)) =
@@ -194,7 +192,7 @@ vertical-part (DownText.keyword (one Down.center w)) = record { part = P.Center;
 vertical-part (DownText.keyword (one Down.bottom w)) = record { part = P.Down Ver.Bottom; text = PartText.down (one VerticalWord.bottom w); is = refl }
 vertical-part (DownText.amount {c} h) = record { part = P.At c; text = PartText.at h; is = refl }
 
-in_order : (a b : Part) {x y : Coordinate} → as_across a ≡ A.At x → as_down b ≡ A.At y → two_parts a b ≡ Two.At (place x y)
+in_order : (a b : Part) {x y : Coordinate} → as_across a ≡ Some x → as_down b ≡ Some y → two_parts a b ≡ Some (place x y)
 in_order a b p q = rw (p, q)
 
 read_as : {l : List ℕ} {p : Coordinate × Coordinate} → PositionText l p → Read-as l (place p.0 p.1)

@@ -7,7 +7,7 @@ use Rattle.gradient.specs.Lists.{all}
 use Rattle.gradient.specs.Range.{shape_in, stop_in}
 use Rattle.gradient.specs.Blank.{blank_stop, blank_gradient}
 use Rattle.gradient.specs.declared.Gradient.{Gradient}
-use Rattle.reader.specs.declared.Reading.{Reading}
+use Rattle.reader.specs.Reading.{Reading}
 use Rattle.reader.specs.Written.{Written}
 use Rattle.grammar.specs.Text.{InGrammar}
 

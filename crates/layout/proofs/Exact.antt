@@ -13,8 +13,7 @@ use Rattle.gradient.specs.Bytes.{StopBytes}
 use Rattle.gradient.specs.Check.{check_of}
 use Rattle.gradient.specs.declared.Gradient.{Gradient}
 use Rattle.layout.specs.Words.{layout_of}
-use Rattle.layout.specs.Taken.{gradient_at, taken_reply, taken_of}
-use Rattle.layout.specs.declared.Taken.{Taken}
+use Rattle.layout.specs.Taken.{gradient_at, Taken, taken_reply, taken_of}
 use Rattle.layout.proofs.Places.{words-length}
 use Rattle.layout.proofs.Back.{read_back}
 

@@ -1,53 +1,48 @@
--- What `take` answers, by the way it went: s is read as g, and its layout is written into own.
+-- What `take` answers, by the way it went: s is read as g, which is written anew and compared.
 -- Assumes nothing.
-use mathlib.Core.Path.{◌≡◌, refl, sym, ap, ◌∙◌}
-use mathlib.Core.Bool.{Bool, true, false, cond, not}
-use mathlib.Core.List.{List, append-nil}
+use mathlib.Core.Path.{◌≡◌, sym, ap, ◌∙◌}
+use mathlib.Core.Bool.{Bool, true, false, false≢true, not}
+use mathlib.Core.List.{List}
 use Prim.Native.Nat.{ℕ}
-use lib.Dec.{eqb}
+use native.Mathlib.Omega.{arith}
 use borrow.Author.Tests.{ne_eqb}
-use Rattle.replies.specs.Replies.{malformed}
-use Rattle.replies.proofs.Laws.{given-first, given-next}
-use Rattle.picture.specs.Picture.{padded}
+use Rattle.std.specs.Prelude.{Result, Ok, Err}
+use Rattle.std.specs.Result.{IsErr, IsErrAnd}
+use Rattle.replies.specs.Replies.{done, malformed}
+use Rattle.replies.specs.Refused.{number}
+use Rattle.replies.specs.declared.Refusal.{Refusal}
+use Rattle.replies.specs.declared.Refusal.TheVariants.{Malformed}
+use Rattle.replies.proofs.Laws.{given-first, given-next, number-above}
 use Rattle.words.specs.Word.{equal}
-use Rattle.gradient.specs.Blank.{blank_gradient}
 use Rattle.gradient.specs.Check.{check_of}
 use Rattle.gradient.specs.declared.Gradient.{Gradient}
 use Rattle.layout.specs.Words.{layout_of}
-use Rattle.layout.specs.Taken.{gradient_at, taken_reply, taken_of}
-use Rattle.layout.specs.declared.Taken.{Taken}
-use Rattle.layout.proofs.Exact.{layout-length}
+use Rattle.layout.specs.Taken.{gradient_at, taken, taken_reply, taken_of}
 
--- a reply, and the gradient with it
-answer : (s : List ℕ) {r : ℕ} {g : Gradient} → r ≡ taken_reply s → g ≡ cond (eqb r 0) (gradient_at s) blank_gradient
-    → ◌≡◌ {A = Taken} (record { reply = r; gradient = g }) (taken_of s)
-unfolding taken_of
-answer s e p = rw (← e, p)
+module _ (s : List ℕ) {g : Gradient} (read : g ≡ gradient_at s) where
+  refusal : (r : Refusal) → number r ≡ taken_reply s → taken (Err r) ≡ taken_of s
+  unfolding taken_of
+  refusal r e = rw (← e, ne_eqb (number r) 0 (λ z. let k = number-above r in omega (arith, z)))
 
-module _ (s : List ℕ) {g : Gradient} {own : List ℕ} {b : Bool} (read : g ≡ gradient_at s) (wrote : own ≡ padded 320 (layout_of g)) (same : b ≡ equal s own) where
-  own-layout : own ≡ layout_of (gradient_at s)
-  unfolding gradient_at
-  own-layout =
-      wrote ∙ ap (λ (h : Gradient). padded 320 (layout_of h)) read ∙ rw (layout-length (gradient_at s) refl) (append-nil (layout_of (gradient_at s)))
+  module _ {b : Bool} (same : b ≡ equal s (layout_of g)) where
+    compared : equal s (layout_of (gradient_at s)) ≡ b
+    compared = ap (λ (h : Gradient). equal s (layout_of h)) (sym read) ∙ sym same
 
-  differs : not (equal s (layout_of (gradient_at s))) ≡ not b
-  differs = ap not (sym (same ∙ ap (equal s) own-layout))
-
-  -- another slice
-  pub other : not b ≡ true → {k : Gradient} → k ≡ blank_gradient → ◌≡◌ {A = Taken} (record { reply = malformed; gradient = k }) (taken_of s)
-  unfolding taken_reply
-  other n e = answer s (given-first _ (differs ∙ n)) e
-
-  -- a layout, with the gradient's own reply
-  module _ {r : ℕ} (is : not b ≡ false) (check : r ≡ check_of g) where
-    own-reply : r ≡ taken_reply s
+    -- another slice
+    pub other : b ≡ false → taken (Err Malformed) ≡ taken_of s
     unfolding taken_reply
-    own-reply = given-next malformed (differs ∙ is) (check ∙ ap check_of read)
+    other e = refusal Malformed (given-first _ (ap not (compared ∙ e)))
 
-    -- 0
-    pub gave : r ≡ 0 → ◌≡◌ {A = Taken} (record { reply = 0; gradient = g }) (taken_of s)
-    gave e = answer s (sym e ∙ own-reply) read
+    -- a layout, with the gradient's own reply
+    module _ (is : b ≡ true) where
+      own : {n : ℕ} → n ≡ check_of g → n ≡ taken_reply s
+      unfolding taken_reply
+      own e = given-next malformed (ap not (compared ∙ is)) (e ∙ ap check_of read)
 
-    -- another
-    pub refused : (r ≡ 0 → ⊥) → {k : Gradient} → k ≡ blank_gradient → ◌≡◌ {A = Taken} (record { reply = r; gradient = k }) (taken_of s)
-    refused n e = answer s own-reply (rw (ne_eqb r 0 n) e)
+      pub refused : (a : Result Gradient Refusal) (r : Refusal) → IsErr a × IsErrAnd a (λ x. x ≡ r) → number r ≡ check_of g → taken a ≡ taken_of s
+      refused (Ok v) r k e = absurd (false≢true k.0)
+      refused (Err x) r k e = rw k.1 (refusal r (own e))
+
+      pub gave : done ≡ check_of g → taken (Ok g) ≡ taken_of s
+      unfolding taken_of
+      gave e = rw (← own e, read)

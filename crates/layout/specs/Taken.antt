@@ -1,10 +1,12 @@
 -- What a slice of bytes reads as, and the reply to it. A slice is read whatever stands in it, and is a layout only where it is the layout of the
 -- gradient that it reads as. Document 01: "A chart .. handed in .. that breaks its layout in docs/ also gets 4, before its contents are judged."
 -- Assumes nothing.
-use Rattle.std.specs.Prelude.{cond, not, List, ℕ, ◌+◌, ◌*◌, ◌/◌, ◌%◌, eqb}
+use Rattle.std.specs.Prelude.{cond, not, Result, Ok, Err, List, ℕ, ◌+◌, ◌*◌, ◌/◌, ◌%◌, eqb}
 use Rattle.std.specs.Int.{w32}
 use Rattle.std.proofs.Common.{to_z}
-use Rattle.replies.specs.Replies.{malformed, given, ◌or_else◌}
+use Rattle.replies.specs.Replies.{done, malformed, given, ◌or_else◌}
+use Rattle.replies.specs.Refused.{number}
+use Rattle.replies.specs.declared.Refusal.{Refusal}
 use Rattle.words.specs.Word.{word_at, up_to, equal}
 use Rattle.gradient.specs.Blank.{blank_gradient}
 use Rattle.gradient.specs.Check.{check_of}
@@ -26,7 +28,6 @@ use Rattle.gradient.specs.declared.Coordinate.TheVariants as C
 use Rattle.gradient.specs.declared.Shape.{Shape}
 use Rattle.gradient.specs.declared.Shape.TheVariants as Sh
 use Rattle.gradient.specs.declared.Gradient.{Gradient}
-use Rattle.layout.specs.declared.Taken.{Taken}
 use Rattle.layout.specs.Words.{layout_of}
 
 -- ---- a stop, of the words of its color, its unit and its position; another unit reads as none
@@ -79,6 +80,16 @@ stop_at s i = stop_of (word_at s (64 + 16 * i)) (word_at s (68 + 16 * i)) (word_
 -- it repeats where word 2 is 1; another word reads as one that does not
 unfoldable pub gradient_at : List ℕ → Gradient
 gradient_at s = record { shape = shape_at s; repeating = eqb (word_at s 8) 1; count = word_at s 0; stops = up_to 16 (stop_at s) }
+
+-- ---- the reply to a slice, and the gradient that it holds; the blank one after a refusal
+pub record Taken : Type 0 where
+  pub reply : ℕ
+  pub gradient : Gradient
+
+-- what the code answers, as that
+abbrev pub taken : Result Gradient Refusal → Taken
+taken (Ok g) = record { reply = done; gradient = g }
+taken (Err r) = record { reply = number r; gradient = blank_gradient }
 
 -- ---- the reply: 4 where it is not a layout, then the gradient's own
 unfoldable pub taken_reply : List ℕ → ℕ

@@ -3,37 +3,29 @@
 
 ghost use Rattle.std.specs.Prelude.{◌≡◌, ◌+◌, ◌*◌, ◌≤◌, ◌<◌, length};
 ghost use Rattle.picture.specs.Picture.{patched, padded};
-ghost use Rattle.words.specs.Word.{word_bytes, each};
+ghost use Rattle.words.specs.Word.{word_bytes, each, equal};
 ghost use Rattle.layout.specs.Words.{color_word, position_unit, position_word, stop_words, side_code, corner_code, direction_code, angle_word, extent_code, size_extent, size_unit, size_word, coordinate_unit, coordinate_word, repeating_word, head_words, layout_of};
-ghost use Rattle.layout.specs.Taken.{color_of, position_at, stop_of, direction_of, extent_of, size_of, coordinate_of, shape_at, stop_at, gradient_at, taken_of};
+ghost use Rattle.layout.specs.Taken.{color_of, position_at, stop_of, direction_of, extent_of, size_of, coordinate_of, shape_at, stop_at, gradient_at, taken, taken_of};
 
 use gradient::{
     Color, Coordinate, Direction, Extent, Gradient, Horizontal, Position, Shape, Side, Size, Stop,
     Vertical,
 };
-use replies::{DONE, MALFORMED};
+use replies::Refusal;
+use std::array;
 use words::{bits, put_word, signed, word_at};
 
 // The bytes of a gradient.
 pub const SIZE: usize = 320;
 
-// The reply to a slice, and the gradient that it holds; a blank one after a refusal.
-#[derive(Clone, Copy)]
-pub struct Taken {
-    pub reply: u32,
-    pub gradient: Gradient,
-}
-
 // ---- a stop
+
+// Kept: the words of enums are made by functions and not by `From`, which could stand only in the enums' own crate, and that knows nothing of layouts.
 
 fn color_word(c: Color) -> u32
     ensures { result ≡ color_word c }
 {
-    let red = c.red as u32;
-    let green = c.green as u32;
-    let blue = c.blue as u32;
-    let alpha = c.alpha as u32;
-    red + green * 256 + blue * 65536 + alpha * 16777216
+    u32::from_le_bytes([c.red, c.green, c.blue, c.alpha])
 }
 
 fn position_unit(p: Position) -> u32
@@ -175,7 +167,7 @@ fn coordinate_word(c: Coordinate) -> u32
 fn repeating_word(repeating: bool) -> u32
     ensures { result ≡ repeating_word repeating }
 {
-    if repeating { 1 } else { 0 }
+    u32::from(repeating)
 }
 
 // The 16 words of the head of n stops.
@@ -211,10 +203,8 @@ fn put_head(out: &mut [u8], ws: [u32; 16])
     requires { 64 ≤ length out.old }
     ensures { out.new ≡ patched out.old 0 (each word_bytes ws) }
 {
-    let mut k: usize = 0;
-    while k < 16 {
-        put_word(out, 4 * k, ws[k]);
-        k += 1;
+    for (k, w) in ws.iter().enumerate() {
+        put_word(out, 4 * k, *w);
     }
 }
 
@@ -223,11 +213,8 @@ fn put_stops(out: &mut [u8], stops: [Stop; 16])
     requires { 320 ≤ length out.old }
     ensures { out.new ≡ patched out.old 64 (each word_bytes (each stop_words stops)) }
 {
-    let mut place: usize = 0;
-    while place < 16 {
-        let s = stops[place];
-        put_stop(out, 64 + 16 * place, s);
-        place += 1;
+    for (place, s) in stops.iter().enumerate() {
+        put_stop(out, 64 + 16 * place, *s);
     }
 }
 
@@ -248,11 +235,12 @@ pub fn write(g: Gradient, out: &mut [u8])
 fn color_of(w: u32) -> Color
     ensures { result ≡ color_of w }
 {
+    let [red, green, blue, alpha] = w.to_le_bytes();
     Color {
-        red: (w % 256) as u8,
-        green: (w / 256 % 256) as u8,
-        blue: (w / 65536 % 256) as u8,
-        alpha: (w / 16777216) as u8,
+        red,
+        green,
+        blue,
+        alpha,
     }
 }
 
@@ -305,19 +293,19 @@ fn extent_of(c: u32) -> Extent
 fn size_of(c: u32, u: u32, n: u32) -> Size
     ensures { result ≡ size_of c u n }
 {
-    if u == 1 {
-        return Size::Length(signed(n));
+    match u {
+        1 => Size::Length(signed(n)),
+        _ => Size::Extent(extent_of(c)),
     }
-    Size::Extent(extent_of(c))
 }
 
 fn coordinate_of(u: u32, n: u32) -> Coordinate
     ensures { result ≡ coordinate_of u n }
 {
-    if u == 2 {
-        return Coordinate::Percentage(signed(n));
+    match u {
+        2 => Coordinate::Percentage(signed(n)),
+        _ => Coordinate::Length(signed(n)),
     }
-    Coordinate::Length(signed(n))
 }
 
 fn shape_at(s: &[u8]) -> Shape
@@ -346,42 +334,31 @@ fn stop_at(s: &[u8], i: usize) -> Stop
 fn gradient_at(s: &[u8]) -> Gradient
     ensures { result ≡ gradient_at s.now }
 {
-    let mut stops = [gradient::blank_stop(); 16];
-    let mut i: usize = 0;
-    while i < 16 {
-        stops[i] = stop_at(s, i);
-        i += 1;
-    }
     Gradient {
         shape: shape_at(s),
         repeating: word_at(s, 8) == 1,
         count: word_at(s, 0),
-        stops: stops,
+        stops: array::from_fn(|i| stop_at(s, i)),
     }
 }
 
-// The gradient whose layout a slice is: it is read whatever stands in it, and compared with the layout of what it reads as.
-pub fn take(s: &[u8]) -> Taken
-    ensures { result ≡ taken_of s.now }
+// Whether a slice is the layout of a gradient, which is written anew and compared.
+fn is_layout(s: &[u8], g: Gradient) -> bool
+    ensures { result ≡ equal s.now (layout_of g) }
 {
-    let g = gradient_at(s);
     let mut own = [0u8; SIZE];
     write(g, &mut own);
-    if !words::same(s, &own) {
-        return Taken {
-            reply: MALFORMED,
-            gradient: gradient::blank_gradient(),
-        };
+    words::same(s, &own)
+}
+
+// Takes a gradient from its layout: a slice is read whatever stands in it, and compared with the layout of what it reads as.
+pub fn take(s: &[u8]) -> Result<Gradient, Refusal>
+    ensures { taken result ≡ taken_of s.now }
+{
+    let g = gradient_at(s);
+    if !is_layout(s, g) {
+        return Err(Refusal::Malformed);
     }
-    let reply = gradient::check(g);
-    if reply == DONE {
-        return Taken {
-            reply: DONE,
-            gradient: g,
-        };
-    }
-    Taken {
-        reply: reply,
-        gradient: gradient::blank_gradient(),
-    }
+    gradient::check(g)?;
+    Ok(g)
 }

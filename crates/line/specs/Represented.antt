@@ -10,6 +10,8 @@ use Rattle.line.specs.declared.SignedVector.{SignedVector}
 use Rattle.line.specs.declared.BiasedCenter.{BiasedCenter}
 use Rattle.line.specs.declared.Line.{Line}
 use Rattle.line.specs.declared.Line.TheVariants as L
+use Rattle.line.specs.declared.Choice.{Choice}
+use Rattle.line.specs.declared.Choice.TheVariants as Ch
 use Rattle.line.specs.Vector.{Vector, vector}
 use Rattle.line.specs.Location.{Rule, line_rule}
 use Rattle.line.specs.Circle.{Center, circle_rule}
@@ -57,10 +59,10 @@ pub record IsCenter (r : BiasedCenter) (c : Center) : Type 0 where
   pub is : center_in r ≡ c
   pub near : Near r
 
--- the greater or the lesser of two
-abbrev pub chosen : Bool → ℕ → ℕ → ℕ
-chosen true = max
-chosen false = min
+-- the lesser or the greater of two
+abbrev pub chosen : Choice → ℕ → ℕ → ℕ
+chosen Ch.Closest = min
+chosen Ch.Farthest = max
 
 -- the rule of locations that a line stands for
 abbrev pub rule_in : Line → ℕ → ℕ → Rule

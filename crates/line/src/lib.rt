@@ -15,7 +15,7 @@ ghost use Rattle.line.specs.Represented.{is_left, is_top, vector_in, IsVector, B
 use gradient::{Coordinate, Direction, Extent, Horizontal, Shape, Side, Size, Vertical};
 
 // A vector as two sizes, with the signs beside them.
-#[derive(Clone, Copy)]
+#[derive(Clone, Copy, Debug, PartialEq, Eq)]
 pub struct SignedVector {
     pub x: u32,
     pub y: u32,
@@ -24,79 +24,63 @@ pub struct SignedVector {
 }
 
 // A circle's center, both coordinates biased.
-#[derive(Clone, Copy)]
+#[derive(Clone, Copy, Debug, PartialEq, Eq)]
 pub struct BiasedCenter {
     pub x: u32,
     pub y: u32,
 }
 
 // What a pixel's location is measured along or from.
-#[derive(Clone, Copy)]
+#[derive(Clone, Copy, Debug, PartialEq, Eq)]
 pub enum Line {
     Straight(SignedVector),
     Circle(BiasedCenter),
+}
+
+// The vector of two signed numbers.
+fn signed_vector(x: i32, y: i32) -> SignedVector
+    ensures { vector_in result ≡ vector x y }
+{
+    SignedVector {
+        x: x.unsigned_abs(),
+        y: y.unsigned_abs(),
+        left: x < 0,
+        up: y < 0,
+    }
 }
 
 fn side_vector(s: Side) -> SignedVector
     ensures { IsVector result (side_vector s) }
 {
     match s {
-        Side::Top => SignedVector {
-            x: 0,
-            y: 1,
-            left: false,
-            up: true,
-        },
-        Side::Right => SignedVector {
-            x: 1,
-            y: 0,
-            left: false,
-            up: false,
-        },
-        Side::Bottom => SignedVector {
-            x: 0,
-            y: 1,
-            left: false,
-            up: false,
-        },
-        Side::Left => SignedVector {
-            x: 1,
-            y: 0,
-            left: true,
-            up: false,
-        },
+        Side::Top => signed_vector(0, -1),
+        Side::Right => signed_vector(1, 0),
+        Side::Bottom => signed_vector(0, 1),
+        Side::Left => signed_vector(-1, 0),
     }
 }
 
 fn is_left(h: Horizontal) -> bool
     ensures { result ≡ is_left h }
 {
-    match h {
-        Horizontal::Left => true,
-        Horizontal::Right => false,
-    }
+    matches!(h, Horizontal::Left)
 }
 
 fn is_top(v: Vertical) -> bool
     ensures { result ≡ is_top v }
 {
-    match v {
-        Vertical::Top => true,
-        Vertical::Bottom => false,
-    }
+    matches!(v, Vertical::Top)
 }
 
 fn corner_vector(v: Vertical, a: Horizontal, w: usize, h: usize) -> SignedVector
     requires { Box w h }
     ensures { IsVector result (vector (across a h) (down v w)) }
 {
-    let left = is_left(a);
-    let up = is_top(v);
     SignedVector {
         x: h as u32,
         y: w as u32,
-        left,
-        up,
+        left: is_left(a),
+        up: is_top(v),
     }
 }
 
@@ -138,6 +122,7 @@ fn angle_vector(a: i32) -> SignedVector
     }
 }
 
+#[tactic(auto, unfolding(crate::specs::Vector::vector_of))]
 pub fn direction_vector(d: Direction, w: usize, h: usize) -> SignedVector
     requires { Box w h × (direction_in d ≡ true) }
     ensures { IsVector result (vector_of d w h) }
@@ -169,6 +154,7 @@ fn on_line(t: u64, v: SignedVector, guess: u32) -> u64
     root::root_near(x * x + y * y, t * t, guess)
 }
 
+#[tactic(auto, unfolding(crate::specs::Location::line_length))]
 fn vector_length(v: SignedVector, w: usize, h: usize) -> u64
     requires { Box w h × Bounded v }
     ensures { result ≡ line_length w h (vector_in v) }
@@ -237,49 +223,57 @@ fn hypotenuse(a: u64, b: u64, guess: u32) -> u64
     root::root_near(1, a * a + b * b, guess)
 }
 
+// Which of several distances an extent names.
+#[derive(Clone, Copy, Debug, PartialEq, Eq)]
+enum Choice {
+    Closest,
+    Farthest,
+}
+
 // The greater of two, or the lesser.
-fn choose(far: bool, a: u64, b: u64) -> u64
-    ensures { result ≡ chosen far a b }
+fn choose(choice: Choice, a: u64, b: u64) -> u64
+    ensures { result ≡ chosen choice a b }
 {
-    if far {
-        return if a <= b { b } else { a };
+    match choice {
+        Choice::Closest => a.min(b),
+        Choice::Farthest => a.max(b),
     }
-    if a <= b { a } else { b }
 }
 
 // The distance of a coordinate to the farther, or the closer, of the two edges across its axis.
-fn edge(far: bool, c: u32, pixels: usize) -> u64
+fn edge(choice: Choice, c: u32, pixels: usize) -> u64
     requires { (c < twice_bias) × (pixels ≤ 2048) }
-    ensures { (result ≡ chosen far (from (unbiased c) 0) (from (unbiased c) (64 * pixels))) × (result < twice_bias) }
+    ensures { (result ≡ chosen choice (from (unbiased c) 0) (from (unbiased c) (64 * pixels))) × (result < twice_bias) }
 {
     let near = distance(c, 0);
     let other = distance(c, (64 * pixels) as u64);
-    choose(far, near, other)
+    choose(choice, near, other)
 }
 
-fn side_radius(far: bool, c: BiasedCenter, w: usize, h: usize) -> u64
+fn side_radius(choice: Choice, c: BiasedCenter, w: usize, h: usize) -> u64
     requires { Box w h × Near c }
-    ensures { result ≡ of_sides (chosen far) w h (center_in c) }
+    ensures { result ≡ of_sides (chosen choice) w h (center_in c) }
 {
-    choose(far, edge(far, c.x, w), edge(far, c.y, h))
+    choose(choice, edge(choice, c.x, w), edge(choice, c.y, h))
 }
 
-fn corner_radius(far: bool, c: BiasedCenter, w: usize, h: usize) -> u64
+fn corner_radius(choice: Choice, c: BiasedCenter, w: usize, h: usize) -> u64
     requires { Box w h × Near c }
-    ensures { result ≡ root_of 1 (of_corners (chosen far) w h (center_in c)) }
+    ensures { result ≡ root_of 1 (of_corners (chosen choice) w h (center_in c)) }
 {
-    hypotenuse(edge(far, c.x, w), edge(far, c.y, h), 0)
+    hypotenuse(edge(choice, c.x, w), edge(choice, c.y, h), 0)
 }
 
+#[tactic(auto, unfolding(crate::specs::Circle::radius_of))]
 fn extent_radius(e: Extent, c: BiasedCenter, w: usize, h: usize) -> u64
     requires { Box w h × Near c }
     ensures { result ≡ radius_of (Size.Extent e) w h (center_in c) }
 {
     match e {
-        Extent::ClosestSide => side_radius(false, c, w, h),
-        Extent::ClosestCorner => corner_radius(false, c, w, h),
-        Extent::FarthestSide => side_radius(true, c, w, h),
-        Extent::FarthestCorner => corner_radius(true, c, w, h),
+        Extent::ClosestSide => side_radius(Choice::Closest, c, w, h),
+        Extent::ClosestCorner => corner_radius(Choice::Closest, c, w, h),
+        Extent::FarthestSide => side_radius(Choice::Farthest, c, w, h),
+        Extent::FarthestCorner => corner_radius(Choice::Farthest, c, w, h),
     }
 }
 
@@ -293,6 +287,7 @@ fn radius(s: Size, c: BiasedCenter, w: usize, h: usize) -> u64
     }
 }
 
+#[tactic(auto, unfolding(crate::specs::Location::location_by))]
 fn circle_location(c: BiasedCenter, i: usize, j: usize, guess: u32) -> u64
     requires { Near c × (i < 2048) × (j < 2048) }
     ensures { result ≡ location_by (circle_rule (center_in c)) i j }
@@ -303,6 +298,7 @@ fn circle_location(c: BiasedCenter, i: usize, j: usize, guess: u32) -> u64
 }
 
 // What the locations of a gradient's pixels are measured along or from.
+#[tactic(auto, unfolding(crate::specs::Line::rule_of))]
 pub fn line_of(s: Shape, w: usize, h: usize) -> Line
     requires { Box w h × (shape_in s ≡ true) }
     ensures { IsLine result w h (rule_of s w h) }

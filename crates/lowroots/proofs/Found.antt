@@ -1,6 +1,6 @@
 -- The low 32 bits tell a number from others near it, and each step of the search keeps the root in its range.
 -- Assumes nothing.
-use Rattle.std.proofs.Common.{◌≡◌, ℕ, ◌+◌, ◌-◌, ◌*◌, ◌%◌, ◌<◌, ◌≤◌, ap, mul-le-mul, arith}
+use Rattle.std.proofs.Common.{◌≡◌, ℕ, ◌+◌, ◌*◌, ◌%◌, ◌<◌, ◌≤◌, ap, arith}
 use native.Mathlib.Decide.{dec_le}
 use Rattle.root.specs.Root.{IsRoot, root_of}
 use Rattle.root.proofs.Laws.{root-eq}
@@ -40,38 +40,3 @@ four low g m b square rest over x y v em sq is fits eo hx hy hv eb z ez small lo
 -- the one number that is left is the root
 pub found : (z : ℕ) (s : Search) → Sought z 1 s → s.from ≡ root_of 1 z
 found z s h = root-eq 1 z s.from (omega arith) (record { low = omega (arith, h.over); high = omega (arith, h.below) })
-
--- a step of k numbers: t is how far the square goes up by it. Where t is at most `over`, a and b are k and t; otherwise both are 0
-pub sought-half : (z m k t a b : ℕ) (s : Search) → t ≡ k * (2 * s.from + k) → (s.over < t → a ≡ 0) → (t ≤ s.over → a ≡ k) → (s.over < t → b ≡ 0)
-    → (t ≤ s.over → b ≡ t) → k ≤ m → Sought z (k + m) s → Sought z m (record { from = s.from + a; over = (s.over - b) % 2147483648 })
-sought-half z m k t a b s et a₀ a₁ b₀ b₁ km h = either (dec_le t s.over)
-  where
-    either : Dec (t ≤ s.over) → Sought z m (record { from = s.from + a; over = (s.over - b) % 2147483648 })
-    either (yes l) =
-        let ea : a ≡ k = a₁ l in
-        let eb : b ≡ t = b₁ l in
-        let eo : (s.over - b) % 2147483648 ≡ s.over - t = omega (arith, h.fits) in
-        rw (ea, eo) (record { over = omega (arith, h.over); below = omega (arith, h.below); fits = omega (arith, h.fits) })
-    either (no l) =
-        let ea : a ≡ 0 = a₀ (omega arith) in
-        let eb : b ≡ 0 = b₀ (omega arith) in
-        let eo : (s.over - b) % 2147483648 ≡ s.over = omega (arith, h.fits) in
-        let far : (s.from + k) * (s.from + k) ≤ (s.from + m) * (s.from + m) = let d : s.from + k ≤ s.from + m = omega arith in mul-le-mul d d in
-        rw (ea, eo) (record { over = omega (arith, h.over); below = omega (arith, h.over, far); fits = h.fits })
-
-pub taken-le : (over t r : ℕ) → (over < t → r ≡ 0) → (t ≤ over → r ≡ t) → r ≤ over
-taken-le over t r a b = either (dec_le t over)
-  where
-    either : Dec (t ≤ over) → r ≤ over
-    either (yes l) = omega (arith, b l)
-    either (no l) = omega (arith, a (omega arith))
-
--- where a search begins
-pub begun : (low g square rest : ℕ) → square ≡ g % 4194304 * (g % 4194304) % 4294967296 → (rest + square) % 4294967296 ≡ low → rest < 4294967296
-    → (z n : ℕ) → z % 4294967296 ≡ low → g < 4194304 → n ≤ 128 → g * g ≤ z → z < (g + n) * (g + n)
-    → Sought z n (record { from = g % 4194304; over = rest % 2147483648 })
-begun low g square rest sq is fits z n ez small few lo hi =
-    let eg : g % 4194304 ≡ g = omega arith in
-    let top : (g + n) * (g + n) ≤ (g + 128) * (g + 128) = let d : g + n ≤ g + 128 = omega arith in mul-le-mul d d in
-    let e : rest % 2147483648 + g * g ≡ z = difference low g (g % 4194304) square rest z eg sq is fits ez lo (omega (arith, hi, top)) in
-    rw eg (record { over = e; below = hi; fits = omega arith })

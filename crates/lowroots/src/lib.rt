@@ -15,10 +15,11 @@ pub const SHORT_LIMIT: u32 = 4194304;
 const SIGN_BIT: u32 = 2147483648;
 
 // 1 where x is above y, else 0.
+// Kept: a number and no `bool`, since `among_4` adds three of them without a branch.
 fn above(x: u32, y: u32) -> u32
     ensures { (result ≤ 1) × (result ≡ 0 → x ≤ y) × (result ≡ 1 → y < x) }
 {
-    if y < x { 1 } else { 0 }
+    u32::from(y < x)
 }
 
 // The root, if it is g or one of the three numbers after it.
@@ -26,8 +27,8 @@ pub fn among_4(g: u32, low: u32) -> u32
     ensures { Finds 4 root_limit low g result }
 {
     let q = g % ROOT_LIMIT;
-    let b = q as u64;
-    let over = std::num::wrapping_sub_u32(low, numbers::low_half(b * b)) % SIGN_BIT;
+    let b = u64::from(q);
+    let over = low.wrapping_sub(numbers::low_half(b * b)) % SIGN_BIT;
     let one = 2 * q;
     let two = 2 * one + 3;
     let three = one + two + 5;
@@ -37,22 +38,10 @@ pub fn among_4(g: u32, low: u32) -> u32
 // ---- a binary search
 
 // A number that is not above the root, and how far its square is below the number whose root is sought.
-#[derive(Clone, Copy)]
+#[derive(Clone, Copy, Debug, PartialEq, Eq)]
 struct Search {
     from: u32,
     over: u32,
-}
-
-// The search starts at the guess.
-fn begin(g: u32, low: u32) -> Search
-    ensures { (result.from < short_limit) × ((z n : ℕ) → z % 4294967296 ≡ low → g < short_limit → n ≤ 128 → g * g ≤ z → z < (g + n) * (g + n) → Sought z n result) }
-{
-    let q = g % SHORT_LIMIT;
-    let b = q as u64;
-    Search {
-        from: q,
-        over: std::num::wrapping_sub_u32(low, numbers::low_half(b * b)) % SIGN_BIT,
-    }
 }
 
 // x where `over` is at least t, else 0.
@@ -62,15 +51,29 @@ fn taken(over: u32, t: u32, x: u32) -> u32
     if over < t { 0 } else { x }
 }
 
-// The search k numbers farther on, unless that is past the root.
-fn halved(s: Search, k: u32) -> Search
-    requires { (k ≤ 32) × (s.from < 8388608) }
-    ensures { (result.from ≤ s.from + k) × ((z m : ℕ) → k ≤ m → Sought z (k + m) s → Sought z m result) }
-{
-    let t = k * (2 * s.from + k);
-    Search {
-        from: s.from + taken(s.over, t, k),
-        over: (s.over - taken(s.over, t, t)) % SIGN_BIT,
+impl Search {
+    // The search starts at the guess.
+    fn begin(g: u32, low: u32) -> Search
+        ensures { (result.from < short_limit) × ((z n : ℕ) → z % 4294967296 ≡ low → g < short_limit → n ≤ 128 → g * g ≤ z → z < (g + n) * (g + n) → Sought z n result) }
+    {
+        let q = g % SHORT_LIMIT;
+        let b = u64::from(q);
+        Search {
+            from: q,
+            over: low.wrapping_sub(numbers::low_half(b * b)) % SIGN_BIT,
+        }
+    }
+
+    // The search k numbers farther on, unless that is past the root.
+    fn halved(self, k: u32) -> Search
+        requires { (k ≤ 32) × (self.from < 8388608) }
+        ensures { (result.from ≤ self.from + k) × ((z m : ℕ) → k ≤ m → Sought z (k + m) self → Sought z m result) }
+    {
+        let t = k * (2 * self.from + k);
+        Search {
+            from: self.from + taken(self.over, t, k),
+            over: (self.over - taken(self.over, t, t)) % SIGN_BIT,
+        }
     }
 }
 
@@ -78,14 +81,14 @@ fn halved(s: Search, k: u32) -> Search
 pub fn among_16(g: u32, low: u32) -> u32
     ensures { Finds 16 short_limit low g result }
 {
-    let s = halved(halved(begin(g, low), 8), 4);
-    halved(halved(s, 2), 1).from
+    let s = Search::begin(g, low).halved(8).halved(4);
+    s.halved(2).halved(1).from
 }
 
 // The root, if it is one of the 65 numbers from g on.
 pub fn among_65(g: u32, low: u32) -> u32
     ensures { Finds 65 short_limit low g result }
 {
-    let s = halved(halved(halved(begin(g, low), 32), 16), 8);
-    halved(halved(halved(halved(s, 4), 2), 1), 1).from
+    let s = Search::begin(g, low).halved(32).halved(16).halved(8);
+    s.halved(4).halved(2).halved(1).halved(1).from
 }

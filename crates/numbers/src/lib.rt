@@ -2,6 +2,7 @@
 #![tactic(auto)]
 
 ghost use Rattle.std.specs.Prelude.{◌≡◌, ◌%◌, ◌^◌, ◌≤◌, ◌<◌, nat_abs, pos, ◌-ℤ◌};
+ghost use Rattle.std.specs.Int.{IsGcd};
 ghost use Rattle.numbers.specs.Biased.{bias, twice_bias, biased, unbiased};
 ghost use Rattle.numbers.specs.Units.{rounded, length_units, percentage_units, most_whole};
 
@@ -16,7 +17,7 @@ const SIGNED_BIAS: i32 = BIAS as i32;
 pub fn magnitude(v: i32) -> u32
     ensures { result ≡ nat_abs v }
 {
-    if v < 0 { (!v) as u32 + 1 } else { v as u32 }
+    v.unsigned_abs()
 }
 
 // A number of either sign, biased.
@@ -39,7 +40,7 @@ pub fn unbiased(u: u32) -> i32
 pub fn apart(a: u64, b: u64) -> u64
     ensures { result ≡ nat_abs (pos a -ℤ pos b) }
 {
-    if b <= a { a - b } else { b - a }
+    a.abs_diff(b)
 }
 
 // n / d to the nearest whole number, halves up.
@@ -78,4 +79,19 @@ pub fn low_half(x: u64) -> u32
     ensures { result ≡ x % 4294967296 }
 {
     (x % 4294967296) as u32
+}
+
+// The greatest common divisor, by Euclid's algorithm.
+pub fn common(x: u32, y: u32) -> u32
+    ensures { IsGcd x y result }
+{
+    let mut a = x;
+    let mut b = y;
+    // Kept: no index is counted: each round goes on with the divisor and what it leaves.
+    while b > 0 {
+        let r = a % b;
+        a = b;
+        b = r;
+    }
+    a
 }

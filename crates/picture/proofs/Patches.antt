@@ -7,7 +7,9 @@ use native.Mathlib.Nat.{add-zero, add_assoc}
 use native.Mathlib.Numerals.{add-one}
 use native.Mathlib.Omega.{arith}
 use lib.ListN.{length, get_or, take, drop, replicate, set, length-append, length-drop, length-replicate, take-append-drop, replicate-append-replicate, get_or-append}
-use lib.Seq.{length-take-le, take-add, take-append-le, drop-append-le, take_at, take-suc, drop-append-add, drop-drop, drop_at, drop-length, get_or-take, get_or-drop, sets-eq}
+use lib.Seq.{length-take-le, take-add, take-append-le, drop-append-le, take_at, take-suc, drop-append-add, drop-drop, drop_at, drop-length, get_or-take, sets-eq}
+use Rattle.std.proofs.Common.{◌*◌, min}
+use Rattle.std.proofs.lemmas.Bool.Decides.{nat_tests}
 use Rattle.picture.specs.Picture.{patched, padded, buffer}
 
 module _ {A : Type 0} where
@@ -107,15 +109,6 @@ module _ {A : Type 0} where
       let k : length (take n (drop at d)) ≡ n = length-take-le n (drop at d) (rw length-drop (omega arith)) in
       sym (rw (k, ← drop-drop n at d, append_assoc, take-append-drop, take-append-drop))
 
-  -- four stores in a row
-  pub stores : (d : List A) (at : ℕ) (x y z v : A) → at + 4 ≤ length d
-      → set (set (set (set d at x) (at + 1) y) (at + 2) z) (at + 3) v ≡ patched d at (x ∷ y ∷ z ∷ v ∷ [])
-  stores d at x y z v h =
-      let e₁ : at + 1 ≡ suc at = omega arith in
-      let e₂ : at + 2 ≡ suc (suc at) = omega arith in
-      let e₃ : at + 3 ≡ suc (suc (suc at)) = omega arith in
-      rw (e₁, e₂, e₃) (sets-eq (x ∷ y ∷ z ∷ v ∷ []) d at h)
-
   -- a turn of a loop that fills: the store at i makes one v more
   pub fill_step : (d b : List A) (at i : ℕ) (v : A) → at ≤ i → i < length d → b ≡ patched d at (replicate (i - at) v)
       → set b i v ≡ patched d at (replicate (i + 1 - at) v)
@@ -159,14 +152,6 @@ module _ {A : Type 0} where
       ap (λ (x : List A). take k (drop (from + i) x)) p ∙ patch-kept d (take i (drop from d)) to (from + i) k (omega arith) (omega arith) ∙ ap (take k) (sym (drop-drop i from d)) in
       pieces_more d b b' (drop from d) to i k (omega arith) l p (q ∙ ap (patched b (to + i)) e)
 
-  pub copy_step : (d b : List A) (from to i : ℕ) (z : A) → from + i < to → to + i < length d → b ≡ patched d to (take i (drop from d))
-      → set b (to + i) (get_or b (from + i) z) ≡ patched d to (take (i + 1) (drop from d))
-  copy_step d b from to i z h k p =
-      let l : i < length (drop from d) = rw length-drop (omega arith) in
-      let v : get_or b (from + i) z ≡ get_or (drop from d) i z =
-      ap (λ (x : List A). get_or x (from + i) z) p ∙ patch-before d (take i (drop from d)) to (from + i) z (omega arith) h ∙ sym (get_or-drop from d i z) in
-      rw v (piece-more d b (drop from d) to i z l k p)
-
 -- ---- the buffer after a call
 -- s written from the start on, then zeros from its end on
 pub painted : (d s b : List ℕ) (e : ℕ) → e ≡ length s → e ≤ length d → b ≡ patched d 0 s
@@ -180,3 +165,7 @@ painted d s b e p h q =
 pub refused : (r : ℕ) (pic : List ℕ) (n : ℕ) → (r ≡ 0 → ⊥) → replicate n 0 ≡ buffer r pic n
 refused zero pic n h = absurd (h refl)
 refused (suc r) pic n h = refl
+
+-- the first blocks of n elements, of `size` each, and one more
+pub more-blocks : (size block n : ℕ) → size * block ≤ n → (min (size * block) n ≡ size * block) × (min (size * (block + 1)) n ≡ size * block + min (n - size * block) size)
+more-blocks size block n h = (grind (arith, nat_tests), grind (arith, nat_tests))

@@ -4,15 +4,15 @@
 ghost use Rattle.std.specs.Prelude.{◌≡◌, ◌∷◌, [], ◌+◌, ◌-◌, ◌≤◌, ◌<◌, length, take, drop, replicate};
 ghost use Rattle.picture.specs.Picture.{patched};
 
+// How many bytes are copied at a time.
+const BLOCK: usize = 2048;
+
 // Stores four bytes from `at` on.
 pub fn put(buf: &mut [u8], at: usize, r: u8, g: u8, b: u8, a: u8)
     requires { at + 4 ≤ length buf.old }
     ensures { buf.new ≡ patched buf.old at (r ∷ g ∷ b ∷ a ∷ []) }
 {
-    buf[at] = r;
-    buf[at + 1] = g;
-    buf[at + 2] = b;
-    buf[at + 3] = a;
+    buf[at..at + 4].copy_from_slice(&[r, g, b, a]);
 }
 
 // Zeros from `at` to the end.
@@ -20,18 +20,14 @@ pub fn clear_from(buf: &mut [u8], at: usize)
     requires { at ≤ length buf.old }
     ensures { buf.new ≡ patched buf.old at (replicate (length buf.old - at) 0) }
 {
-    let mut i = at;
-    while i < buf.len() {
-        buf[i] = 0;
-        i += 1;
-    }
+    buf[at..].fill(0);
 }
 
 // Zeros everywhere.
 pub fn clear(buf: &mut [u8])
     ensures { buf.new ≡ replicate (length buf.old) 0 }
 {
-    clear_from(buf, 0);
+    buf.fill(0);
 }
 
 // Copies the n bytes that stand from `from` on to a later place.
@@ -39,11 +35,8 @@ fn copy_bytes(buf: &mut [u8], from: usize, to: usize, n: usize)
     requires { (from + n ≤ to) × (to + n ≤ length buf.old) }
     ensures { buf.new ≡ patched buf.old to (take n (drop from buf.old)) }
 {
-    let mut i = 0;
-    while i < n {
-        buf[to + i] = buf[from + i];
-        i += 1;
-    }
+    let (front, back) = buf.split_at_mut(to);
+    back[..n].copy_from_slice(&front[from..from + n]);
 }
 
 // n, or `most` where that is less.
@@ -51,20 +44,18 @@ pub fn at_most(most: usize, n: usize) -> usize
     requires { (0 < most) × (0 < n) }
     ensures { (0 < result) × (result ≤ most) × (result ≤ n) }
 {
-    if n < most { n } else { most }
+    n.min(most)
 }
 
-// Copies the n bytes that stand from `from` on to a later place, block by block. Copied in one loop, many rows are tested for an overlap all at once,
-// one is found, and every byte is copied by itself.
+// Copies the n bytes that stand from `from` on to a later place, 2,048 at a time, as `copy_in` does.
 pub fn copy_row(buf: &mut [u8], from: usize, to: usize, n: usize)
     requires { (from + n ≤ to) × (to + n ≤ length buf.old) }
     ensures { buf.new ≡ patched buf.old to (take n (drop from buf.old)) }
 {
-    let mut i = 0;
-    while i < n {
-        let k = at_most(2048, n - i);
+    for block in 0..n.div_ceil(BLOCK) {
+        let i = BLOCK * block;
+        let k = (n - i).min(BLOCK);
         copy_bytes(buf, from + i, to + i, k);
-        i += k;
     }
 }
 
@@ -73,11 +64,7 @@ fn copy_piece(buf: &mut [u8], at: usize, bytes: &[u8])
     requires { at + length bytes.now ≤ length buf.old }
     ensures { buf.new ≡ patched buf.old at bytes.now }
 {
-    let mut i = 0;
-    while i < bytes.len() {
-        buf[at + i] = bytes[i];
-        i += 1;
-    }
+    buf[at..at + bytes.len()].copy_from_slice(bytes);
 }
 
 // Copies all of `bytes` to `at`, 2,048 at a time: longer runs the C library copies by one string instruction, whose speed depends on where in their
@@ -86,10 +73,9 @@ pub fn copy_in(buf: &mut [u8], at: usize, bytes: &[u8])
     requires { at + length bytes.now ≤ length buf.old }
     ensures { buf.new ≡ patched buf.old at bytes.now }
 {
-    let mut i = 0;
-    while i < bytes.len() {
-        let end = i + at_most(2048, bytes.len() - i);
+    for block in 0..bytes.len().div_ceil(BLOCK) {
+        let i = BLOCK * block;
+        let end = i + (bytes.len() - i).min(BLOCK);
         copy_piece(buf, at + i, &bytes[i..end]);
-        i = end;
     }
 }

@@ -2,40 +2,32 @@
 -- Assumes nothing.
 use mathlib.Core.Path.{◌≡◌, refl, sym, ap, ap₂, ◌∙◌, subst}
 use mathlib.Core.Bool.{Bool, true, false}
-use mathlib.Core.List.{List, [], ◌∷◌, map}
-use Prim.Native.Nat.{ℕ, zero, suc, ◌+◌, ◌≤◌, ◌<◌, max}
+use mathlib.Core.List.{List, [], ◌∷◌, ◌++◌, map, append-nil}
+use Prim.Native.Nat.{ℕ, zero, suc, ◌+◌, ◌-◌, ◌≤◌, ◌<◌, max}
 use native.Mathlib.Numerals.{add-one}
 use native.Mathlib.Omega.{arith}
 use lib.Dec.{leb}
-use lib.IntN.{ℤ, pos, nat_abs}
-use lib.ListN.{length, get_or, set, drop, drop_of_length-le, length-drop}
-use lib.Seq.{drop-set-lt}
+use lib.IntN.{ℤ, pos}
+use lib.ListN.{length, get_or, set, take, drop, drop_of_length-le, length-drop}
+use lib.Seq.{drop-set-lt, take_all}
+use Rattle.std.specs.Prelude.{Option, Some, None}
 use lib.Signed.{le_z}
 use borrow.Author.Tests.{leb-true, leb-false}
 use Rattle.numbers.specs.Biased.{bias, unbiased}
 use Rattle.numbers.proofs.Integers.{diff-eq, diff-pos, biased-order}
 use Rattle.placing.specs.Spot.{Spot, unplaced, at}
-use Rattle.placing.specs.Fixup.{or_at, first_at, last_at, ends_placed, maxℤ, raised_to, raised_from, next, run, between, spaced_from}
-use Rattle.placing.specs.Represented.{spot, raised_biased, Ready, spaced_so_far, Spacing}
-use Rattle.placing.proofs.Scan.{map_at, in_place}
-
-pub spot-at : (u : ℕ) → 0 < u → spot u ≡ at (unbiased u)
-spot-at zero h = absurd (omega arith)
-spot-at (suc u) h = refl
-
--- a biased number that stands for a small one is not 0, and so is placed
-pub placed-at : (u : ℕ) (z : ℤ) → unbiased u ≡ z → nat_abs z < bias → spot u ≡ at z
-placed-at zero z e h = absurd (omega (arith, ap nat_abs e))
-placed-at (suc u) z e h = ap at e
+use Rattle.placing.specs.Fixup.{or_at, first_at, last_at, ends_placed, maxℤ, raised_from, next, run, between, spaced_from}
+use Rattle.placing.specs.Represented.{spot, Ready, Follows}
+use Rattle.placing.proofs.Scan.{map_at, grown}
 
 -- ---- (a), on the list by index
-first-set : (z : ℕ) (ps : List ℕ) (u : ℕ) → 0 < length ps → spot u ≡ or_at (unbiased z) (spot (get_or ps 0 0))
+first-set : (z : ℕ) (ps : List (Option ℕ)) (u : Option ℕ) → 0 < length ps → spot u ≡ or_at (unbiased z) (spot (get_or ps 0 None))
     → map spot (set ps 0 u) ≡ first_at (unbiased z) (map spot ps)
 unfolding first_at
 first-set z [] u h e = absurd (omega arith)
 first-set z (p ∷ ps) u h e = ap (λ (s : Spot). s ∷ map spot ps) e
 
-last_set : (z : ℕ) (ps : List ℕ) (u k : ℕ) → k + 1 ≡ length ps → spot u ≡ or_at (unbiased z) (spot (get_or ps k 0))
+last_set : (z : ℕ) (ps : List (Option ℕ)) (u : Option ℕ) (k : ℕ) → k + 1 ≡ length ps → spot u ≡ or_at (unbiased z) (spot (get_or ps k None))
     → map spot (set ps k u) ≡ last_at (unbiased z) (map spot ps)
 unfolding last_at
 last_set z [] u k h e = absurd (omega arith)
@@ -44,8 +36,8 @@ last_set z (p ∷ []) u (suc k) h e = absurd (omega arith)
 last_set z (p ∷ q ∷ ps) u zero h e = absurd (omega arith)
 last_set z (p ∷ q ∷ ps) u (suc k) h e = ap (λ (l : List Spot). spot p ∷ l) (last_set z (q ∷ ps) u k (omega arith) e)
 
-pub ends_set : (line : ℕ) (ps : List ℕ) (u v k : ℕ) → 0 < length ps → k + 1 ≡ length (set ps 0 u)
-    → spot u ≡ or_at (unbiased 33554432) (spot (get_or ps 0 0)) → spot v ≡ or_at (unbiased (line + 33554432)) (spot (get_or (set ps 0 u) k 0))
+pub ends_set : (line : ℕ) (ps : List (Option ℕ)) (u v : Option ℕ) (k : ℕ) → 0 < length ps → k + 1 ≡ length (set ps 0 u)
+    → spot u ≡ or_at (unbiased 33554432) (spot (get_or ps 0 None)) → spot v ≡ or_at (unbiased (line + 33554432)) (spot (get_or (set ps 0 u) k None))
     → map spot (set (set ps 0 u) k v) ≡ ends_placed line (map spot ps)
 ends_set line ps u v k h h' e f =
     last_set (line + 33554432) (set ps 0 u) v k h' f
@@ -56,10 +48,6 @@ ends_set line ps u v k h h' e f =
     at-line n = diff-eq (n + bias) bias n 0 (omega arith) ∙ sym (diff-pos n)
 
 -- ---- (b)
-pub raise-biased : (p g : ℕ) → (p ≡ 0 → ⊥) → max g p ≡ raised_biased p g
-raise-biased zero g h = absurd (h refl)
-raise-biased (suc p) g h = refl
-
 biased-max : (a b : ℕ) → maxℤ (unbiased a) (unbiased b) ≡ unbiased (max a b)
 biased-max a b = go (leb a b) refl
   where
@@ -71,20 +59,23 @@ biased-max a b = go (leb a b) refl
         let m : a ≡ max a b = omega (arith, leb-false a b e) in
         rw (biased-order a b bias, e) (ap unbiased m)
 
-raise-at : (g p : ℕ) → at (raised_to (spot g) (unbiased (suc p))) ≡ spot (max g (suc p))
-raise-at zero p = let m : suc p ≡ max 0 (suc p) = omega arith in ap spot m
-raise-at (suc g) p = ap at (biased-max (suc g) (suc p)) ∙ sym (spot-at (max (suc g) (suc p)) (omega arith))
-
-pub raise-step : (g p : ℕ) (l : List Spot)
-    → spot (raised_biased p g) ∷ raised_from (spot (max g (raised_biased p g))) l ≡ raised_from (spot g) (spot p ∷ l)
+pub raise-placed : (g u : ℕ) (l : List Spot)
+    → at (unbiased (max g u)) ∷ raised_from (at (unbiased (max g u))) l ≡ raised_from (at (unbiased g)) (at (unbiased u) ∷ l)
 unfolding raised_from
-raise-step g zero l =
-    let m : max g 0 ≡ g = omega arith in
-    ap (λ (n : ℕ). unplaced ∷ raised_from (spot n) l) m
-raise-step g (suc p) l =
-    let m : max g (max g (suc p)) ≡ max g (suc p) = omega arith in
-    ap (λ (n : ℕ). spot (max g (suc p)) ∷ raised_from (spot n) l) m
-    ∙ ap (λ (s : Spot). s ∷ raised_from s l) (sym (raise-at g p))
+raise-placed g u l = ap (λ (z : ℤ). at z ∷ raised_from (at z) l) (sym (biased-max g u))
+
+pub raise-unplaced : (g : Spot) (l : List Spot) → unplaced ∷ raised_from g l ≡ raised_from g (unplaced ∷ l)
+unfolding raised_from
+raise-unplaced g l = refl
+
+-- no position is below the least biased one
+pub raise-start : (ps : List (Option ℕ)) → raised_from (at (unbiased 0)) (map spot ps) ≡ raised_from unplaced (map spot ps)
+unfolding raised_from
+raise-start [] = refl
+raise-start (None ∷ ps) = ap (λ (l : List Spot). unplaced ∷ l) (raise-start ps)
+raise-start (Some u ∷ ps) =
+    let m : max 0 u ≡ u = omega arith in
+    ap (λ (z : ℤ). at z ∷ raised_from (at z) (map spot ps)) (biased-max 0 u ∙ ap unbiased m)
 
 pub raised-nil : (g : Spot) → raised_from g [] ≡ []
 unfolding raised_from
@@ -95,30 +86,57 @@ pub spaced-nil : (A : ℤ) (m : ℕ) → spaced_from A m [] ≡ []
 unfolding spaced_from
 spaced-nil A m = refl
 
-pub run-bound : (l : List ℕ) → run (map spot l) ≤ length l
+pub run-bound : (l : List (Option ℕ)) → run (map spot l) ≤ length l
 unfolding run
 run-bound [] = omega arith
-run-bound (zero ∷ l) = let k = run-bound l in omega arith
-run-bound (suc u ∷ l) = omega arith
+run-bound (None ∷ l) = let k = run-bound l in omega arith
+run-bound (Some u ∷ l) = omega arith
 
--- the search for the next placed stop: at an unplaced one, at a placed one, at the end
-module _ (ps : List ℕ) (i : ℕ) where
+-- at an unplaced stop, at a placed one, at the end
+module _ (ps : List (Option ℕ)) (i : ℕ) where
+  abbrev rest : List Spot
+  rest = map spot (drop (i + 1) ps)
+
   module _ (h : i < length ps) where
-    pub next-on : get_or ps i 0 ≡ 0 → next (map spot (drop (i + 1) ps)) ≡ next (map spot (drop i ps))
-    unfolding next
-    next-on e = rw (map_at spot ps i 0 h, e)
+    here : (p : Option ℕ) → get_or ps i None ≡ p → map spot (drop i ps) ≡ spot p ∷ rest
+    here p e = map_at spot ps i None h ∙ ap (λ (o : Option ℕ). spot o ∷ rest) e
 
-    pub run_on : get_or ps i 0 ≡ 0 → suc (run (map spot (drop (i + 1) ps))) ≡ run (map spot (drop i ps))
-    unfolding run
-    run_on e = rw (map_at spot ps i 0 h, e)
+    module _ (e : get_or ps i None ≡ None) where
+      pub next-on : next rest ≡ next (map spot (drop i ps))
+      unfolding next
+      next-on = rw (here None e)
 
-    pub next_here : 0 < get_or ps i 0 → unbiased (get_or ps i 0) ≡ next (map spot (drop i ps))
-    unfolding next
-    next_here e = rw (map_at spot ps i 0 h, spot-at (get_or ps i 0) e)
+      pub run_on : run rest + 1 ≡ run (map spot (drop i ps))
+      unfolding run
+      run_on = rw (here None e) (add-one (run rest))
 
-    pub run-here : 0 < get_or ps i 0 → run (map spot (drop i ps)) ≡ 0
-    unfolding run
-    run-here e = rw (map_at spot ps i 0 h, spot-at (get_or ps i 0) e)
+      pub unplaced-ready : (A : ℤ) → Ready A (map spot (drop i ps)) → (le_z A (next (map spot (drop i ps))) ≡ true) × Ready A rest
+      unfolding Ready
+      unplaced-ready A r = let k = subst (Ready A) (here None e) r in (ap (le_z A) (sym next-on) ∙ k.0, k.1)
+
+      pub spaced-unplaced : (A : ℤ) (m : ℕ)
+          → between A (next (map spot (drop i ps))) m (m + run (map spot (drop i ps))) ∷ spaced_from A (m + 1) rest ≡ spaced_from A m (map spot (drop i ps))
+      unfolding spaced_from
+      spaced-unplaced A m =
+          let k : m + run (map spot (drop i ps)) ≡ m + 1 + run rest = omega (arith, run_on) in
+          ap₂ (λ (z : ℤ) (n : ℕ). between A z m n ∷ spaced_from A (m + 1) rest) (sym next-on) k ∙ sym (ap (spaced_from A m) (here None e))
+
+    module _ (u : ℕ) (e : get_or ps i None ≡ Some u) where
+      pub next_here : unbiased u ≡ next (map spot (drop i ps))
+      unfolding next
+      next_here = rw (here (Some u) e)
+
+      pub run-here : run (map spot (drop i ps)) ≡ 0
+      unfolding run
+      run-here = rw (here (Some u) e)
+
+      pub placed-ready : (A : ℤ) → Ready A (map spot (drop i ps)) → Ready (unbiased u) rest
+      unfolding Ready
+      placed-ready A r = subst (Ready A) (here (Some u) e) r
+
+      pub spaced-placed : (A : ℤ) (m : ℕ) → unbiased u ∷ spaced_from (unbiased u) 1 rest ≡ spaced_from A m (map spot (drop i ps))
+      unfolding spaced_from
+      spaced-placed A m = sym (ap (spaced_from A m) (here (Some u) e))
 
   pub next-none : length ps ≤ i → unbiased 33554432 ≡ next (map spot (drop i ps))
   unfolding next
@@ -128,73 +146,65 @@ module _ (ps : List ℕ) (i : ℕ) where
   unfolding run
   run_none h = rw (drop_of_length-le ps h)
 
--- at an unplaced stop of a run
-module _ {zs : List ℤ} {a b m k i : ℕ} {ps : List ℕ} (s : Spacing zs a b m k i ps) (h : m < k) where
-  pub run_inside : i < length ps
-  run_inside = omega (arith, s.stops, run-bound (drop i ps), length-drop i ps)
+-- a part of the way is computed where the two ends are in order
+pub not-above : (a b : ℕ) (z : ℤ) → unbiased b ≡ z → le_z (unbiased a) z ≡ true → a ≤ b
+not-above a b z e h = leb-true a b (sym (biased-order a b bias) ∙ ap (le_z (unbiased a)) e ∙ h)
 
-  here-unplaced : get_or ps i 0 ≡ 0
-  here-unplaced = go (get_or ps i 0) refl
-    where
-      go : (u : ℕ) → get_or ps i 0 ≡ u → u ≡ 0
-      go zero e = refl
-      go (suc u) e = absurd (omega (arith, s.stops, run-here ps i run_inside (omega arith)))
+-- what is cut off at stop i is all from there on
+pub follows-rest : (ps : List (Option ℕ)) (i to n : ℕ) → Follows (take (length ps - i) (drop i ps)) to n → Follows (drop i ps) to n
+follows-rest ps i to n f =
+    subst (λ (l : List (Option ℕ)). Follows l to n) (take_all (length ps - i) (drop i ps) (omega (arith, length-drop i ps))) f
 
-  abbrev rest : List Spot
-  rest = map spot (drop (i + 1) ps)
+-- ---- one turn of the loops, at stop i; zs is what is to come out
+module _ {zs : List Spot} (ps : List (Option ℕ)) (i g : ℕ)
+    (so-far : map spot (take i ps) ++ raised_from (at (unbiased g)) (map spot (drop i ps)) ≡ zs) where
+  pub raised-placed : (u : ℕ) → i < length ps → get_or ps i None ≡ Some u
+      → map spot (take (i + 1) (set ps i (Some (max g u)))) ++ raised_from (at (unbiased (max g u))) (map spot (drop (i + 1) (set ps i (Some (max g u))))) ≡ zs
+  raised-placed u h e =
+      let G : Spot = at (unbiased g) in
+      let G' : Spot = at (unbiased (max g u)) in
+      let same : drop (i + 1) (set ps i (Some (max g u))) ≡ drop (i + 1) ps = drop-set-lt (i + 1) ps i (Some (max g u)) (omega arith) in
+      let step : G' ∷ raised_from G' (rest ps i) ≡ raised_from G (map spot (drop i ps)) =
+      raise-placed g u (rest ps i) ∙ sym (ap (raised_from G) (here ps i h (Some u) e)) in
+      rw same (grown spot ps i (Some (max g u)) (raised_from G (map spot (drop i ps))) (raised_from G' (rest ps i)) h step ∙ so-far)
 
-  here : map spot (drop i ps) ≡ unplaced ∷ rest
-  here = map_at spot ps i 0 run_inside ∙ ap (λ (n : ℕ). spot n ∷ rest) here-unplaced
+  pub raised-unplaced : i < length ps → get_or ps i None ≡ None
+      → map spot (take (i + 1) (set ps i (get_or ps i None))) ++ raised_from (at (unbiased g)) (map spot (drop (i + 1) (set ps i (get_or ps i None)))) ≡ zs
+  raised-unplaced h e =
+      let G : Spot = at (unbiased g) in
+      let o : Option ℕ = get_or ps i None in
+      let same : drop (i + 1) (set ps i o) ≡ drop (i + 1) ps = drop-set-lt (i + 1) ps i o (omega arith) in
+      let step : spot o ∷ raised_from G (rest ps i) ≡ raised_from G (map spot (drop i ps)) =
+      ap (λ (p : Option ℕ). spot p ∷ raised_from G (rest ps i)) e ∙ raise-unplaced G (rest ps i) ∙ sym (ap (raised_from G) (here ps i h None e)) in
+      rw same (grown spot ps i o (raised_from G (map spot (drop i ps))) (raised_from G (rest ps i)) h step ∙ so-far)
 
-  next-rest : unbiased b ≡ next rest
-  next-rest = s.position ∙ sym (next-on ps i run_inside here-unplaced)
+  pub raised-all : length ps ≤ i → map spot ps ≡ zs
+  raised-all h =
+      let end : map spot (take i ps) ++ raised_from (at (unbiased g)) (map spot (drop i ps)) ≡ map spot ps =
+      rw (take_all i ps h, drop_of_length-le ps h, raised-nil (at (unbiased g))) (append-nil (map spot ps)) in
+      sym end ∙ so-far
 
-  run-rest : m + 1 + run rest ≡ k
-  run-rest = omega (arith, s.stops, run_on ps i run_inside here-unplaced)
+module _ {zs : List ℤ} (ps : List (Option ℕ)) (out : List ℕ) (i a m : ℕ)
+    (so-far : map unbiased (take i out) ++ spaced_from (unbiased a) m (map spot (drop i ps)) ≡ zs) where
+  pub put-placed : (u : ℕ) → i < length ps → i < length out → get_or ps i None ≡ Some u
+      → map unbiased (take (i + 1) (set out i u)) ++ spaced_from (unbiased u) 1 (map spot (drop (i + 1) ps)) ≡ zs
+  put-placed u h h' e =
+      grown unbiased out i u (spaced_from (unbiased a) m (map spot (drop i ps))) (spaced_from (unbiased u) 1 (rest ps i)) h' (spaced-placed ps i h u e (unbiased a) m)
+      ∙ so-far
 
-  parts : (le_z (unbiased a) (next rest) ≡ true) × Ready (unbiased a) rest
-  unfolding Ready
-  parts = subst (Ready (unbiased a)) here s.ready
+  pub put-between : (b n v : ℕ) → i < length ps → i < length out → get_or ps i None ≡ None → Follows (drop i ps) b n
+      → unbiased v ≡ between (unbiased a) (unbiased b) m (m + n)
+      → map unbiased (take (i + 1) (set out i v)) ++ spaced_from (unbiased a) (m + 1) (map spot (drop (i + 1) ps)) ≡ zs
+  put-between b n v h h' e f p =
+      let A : ℤ = unbiased a in
+      let step : unbiased v ∷ spaced_from A (m + 1) (rest ps i) ≡ spaced_from A m (map spot (drop i ps)) =
+      ap (λ (z : ℤ). z ∷ spaced_from A (m + 1) (rest ps i)) (p ∙ ap₂ (λ (z : ℤ) (k : ℕ). between A z m (m + k)) f.position f.stops)
+      ∙ spaced-unplaced ps i h e A m in
+      grown unbiased out i v (spaced_from A m (map spot (drop i ps))) (spaced_from A (m + 1) (rest ps i)) h' step ∙ so-far
 
-  pub not-above : a ≤ b
-  not-above = leb-true a b (sym (biased-order a b bias) ∙ ap (le_z (unbiased a)) next-rest ∙ parts.0)
-
-  pub run_step : (u : ℕ) → unbiased u ≡ between (unbiased a) (unbiased b) m k → Spacing zs a b (m + 1) k (i + 1) (set ps i u)
-  unfolding spaced_from
-  run_step u e =
-      let same : drop (i + 1) (set ps i u) ≡ drop (i + 1) ps = drop-set-lt (i + 1) ps i u (omega arith) in
-      let here-is : unbiased u ∷ spaced_from (unbiased a) (m + 1) rest ≡ spaced_from (unbiased a) m (map spot (drop i ps)) =
-      ap (λ (z : ℤ). z ∷ spaced_from (unbiased a) (m + 1) rest) (e ∙ ap₂ (λ (z : ℤ) (n : ℕ). between (unbiased a) z m n) next-rest (sym run-rest))
-      ∙ sym (ap (spaced_from (unbiased a) m) here) in
-      record {
-        whole = in_place unbiased spot ps i u (spaced_from (unbiased a) m) (spaced_from (unbiased a) (m + 1)) run_inside here-is ∙ s.whole;
-        ready = rw same parts.1;
-        position = rw same next-rest;
-        stops = rw same run-rest;
-      }
-
--- where no unplaced stop is left before the next placed one: past that one, or past the end of the list
-past-placed : (a b m i : ℕ) (ps : List ℕ) → unbiased b ≡ next (map spot (drop i ps)) → run (map spot (drop i ps)) ≡ 0
-    → spaced_so_far (unbiased b) 1 (suc i) ps ≡ spaced_so_far (unbiased a) m i ps
-unfolding next run spaced_from
-past-placed a b m zero [] e f = refl
-past-placed a b m (suc i) [] e f = refl
-past-placed a b m zero (zero ∷ ps) e f = absurd (omega (arith, f))
-past-placed a b m zero (suc p ∷ ps) e f = ap (λ (z : ℤ). unbiased (suc p) ∷ spaced_from z 1 (map spot ps)) e
-past-placed a b m (suc i) (p ∷ ps) e f = ap (λ (l : List ℤ). unbiased p ∷ l) (past-placed a b m i ps e f)
-
-past-ready : (a b i : ℕ) (ps : List ℕ) → unbiased b ≡ next (map spot (drop i ps)) → run (map spot (drop i ps)) ≡ 0
-    → Ready (unbiased a) (map spot (drop i ps)) → Ready (unbiased b) (map spot (drop (suc i) ps))
-unfolding next run Ready
-past-ready a b zero [] e f r = tt
-past-ready a b (suc i) [] e f r = tt
-past-ready a b zero (zero ∷ ps) e f r = absurd (omega (arith, f))
-past-ready a b zero (suc p ∷ ps) e f r = rw e r
-past-ready a b (suc i) (p ∷ ps) e f r = past-ready a b i ps e f r
-
-module _ {zs : List ℤ} {a b m i : ℕ} {ps : List ℕ} (s : Spacing zs a b m m i ps) where
-  pub spaced-past : spaced_so_far (unbiased b) 1 (i + 1) ps ≡ zs
-  spaced-past = rw (add-one i) (past-placed a b m i ps s.position (omega (arith, s.stops)) ∙ s.whole)
-
-  pub ready-past : Ready (unbiased b) (map spot (drop (i + 1) ps))
-  ready-past = rw (add-one i) (past-ready a b i ps s.position (omega (arith, s.stops)) s.ready)
+  pub put-all : i ≡ length ps → map unbiased (take (length ps) out) ≡ zs
+  put-all e =
+      let h : length ps ≤ i = omega (arith, e) in
+      let end : map unbiased (take i out) ++ spaced_from (unbiased a) m (map spot (drop i ps)) ≡ map unbiased (take i out) =
+      rw (drop_of_length-le ps h, spaced-nil (unbiased a) m) (append-nil (map unbiased (take i out))) in
+      ap (λ (n : ℕ). map unbiased (take n out)) (sym e) ∙ sym end ∙ so-far

@@ -1,15 +1,26 @@
 -- The reply to a gradient and a box, and what is handed out. Document 01: "placing the stops .. in a box uses 1 and 3 to 6 and hands out no
 -- stops" on a refusal. (3 is a text's.)
 -- Assumes nothing.
-use Rattle.std.specs.Prelude.{ℕ, zero, suc}
-use Rattle.replies.specs.Replies.{◌or_else◌}
+use Rattle.std.specs.Prelude.{ℕ, zero, suc, Result, Ok, Err}
+use Rattle.replies.specs.Replies.{done, ◌or_else◌}
+use Rattle.replies.specs.Refused.{number}
+use Rattle.replies.specs.declared.Refusal.{Refusal}
 use Rattle.replies.specs.Room.{box_reply}
 use Rattle.gradient.specs.declared.Gradient.{Gradient}
 use Rattle.gradient.specs.Check.{check_of}
 use Rattle.stops.specs.declared.PlacedStops.{PlacedStops}
 use Rattle.stops.specs.Blank.{no_stops}
-use Rattle.placing.specs.declared.Placing.{Placing}
 use Rattle.placing.specs.Placed.{placed_in, listed}
+
+-- the reply, and the placed stops where it is 0, none where it is not
+pub record Placing : Type 0 where
+  pub reply : ℕ
+  pub stops : PlacedStops
+
+-- what the code answers, as that
+abbrev pub placing : Result PlacedStops Refusal → Placing
+placing (Ok p) = record { reply = done; stops = p }
+placing (Err r) = record { reply = number r; stops = no_stops }
 
 -- the box's reply, then the gradient's own
 unfoldable pub place_reply : Gradient → ℕ → ℕ → ℕ

@@ -1,8 +1,9 @@
-// From a gradient and a box to placed stops. Inside, positions are biased, and 0 stands for a stop that is not placed.
+// From a gradient and a box to placed stops. Inside, positions are biased, and a stop that is not placed has none.
 #![tactic(auto)]
 
-ghost use Rattle.std.specs.Prelude.{◌≡◌, true, map, ℕ, ◌+◌, ◌≤◌, ◌<◌, max, pos, length, take, drop, get_or};
+ghost use Rattle.std.specs.Prelude.{◌≡◌, true, map, ℕ, ◌+◌, ◌≤◌, ◌<◌, pos, length, take, drop, get_or};
 ghost use Rattle.numbers.specs.Biased.{twice_bias, unbiased};
+ghost use Rattle.replies.specs.Refused.{reply_of};
 ghost use Rattle.gradient.specs.Blank.{blank_stop};
 ghost use Rattle.gradient.specs.Range.{position_in, stop_in};
 ghost use Rattle.gradient.specs.Check.{Accepted};
@@ -11,35 +12,28 @@ ghost use Rattle.line.specs.Bounds.{longest};
 ghost use Rattle.placing.specs.Spot.{spot_of};
 ghost use Rattle.placing.specs.Fixup.{or_at, ends_placed, raised, between, spaced, fixup};
 ghost use Rattle.placing.specs.Placed.{spots_of, placed_at, at_positions, placed_in, positions_in, listed};
-ghost use Rattle.placing.specs.Reply.{place_reply, place_of};
-ghost use Rattle.placing.specs.Represented.{spot, raised_biased, Ready, Follows, spaced_so_far, Spacing};
+ghost use Rattle.placing.specs.Reply.{place_reply, placing, place_of};
+ghost use Rattle.placing.specs.Represented.{spot, Ready, Follows};
 
 use gradient::{Gradient, Position, Stop};
-use replies::DONE;
+use replies::Refusal;
 use stops::{PlacedStop, PlacedStops};
-
-// The reply, and the placed stops where it is 0.
-#[derive(Clone, Copy)]
-pub struct Placing {
-    pub reply: u32,
-    pub stops: PlacedStops,
-}
 
 // ---- units
 
 // A position in units.
-fn position_units(p: Position, line: u32) -> u32
+fn position_units(p: Position, line: u32) -> Option<u32>
     requires { (position_in p ≡ true) × (line ≤ longest) }
     ensures { spot result ≡ spot_of line p }
 {
     match p {
-        Position::Auto => 0,
-        Position::Length(t) => numbers::length_units(t),
-        Position::Percentage(t) => numbers::percentage_units(t, line),
+        Position::Auto => None,
+        Position::Length(t) => Some(numbers::length_units(t)),
+        Position::Percentage(t) => Some(numbers::percentage_units(t, line)),
     }
 }
 
-fn stop_units(s: Stop, line: u32) -> u32
+fn stop_units(s: Stop, line: u32) -> Option<u32>
     requires { (stop_in s ≡ true) × (line ≤ longest) }
     ensures { spot result ≡ spot_of line s.position }
 {
@@ -48,30 +42,26 @@ fn stop_units(s: Stop, line: u32) -> u32
 }
 
 // The positions of the first n stops.
-fn list_units(stops: [Stop; 16], n: usize, line: u32) -> [u32; 16]
+fn list_units(stops: [Stop; 16], n: usize, line: u32) -> [Option<u32>; 16]
     requires { (n ≤ 16) × ((i : ℕ) → i < n → stop_in (get_or stops i blank_stop) ≡ true) × (line ≤ longest) }
     ensures { map spot (take n result) ≡ spots_of line (take n stops) }
 {
-    let mut ps = [0u32; 16];
-    let mut i: usize = 0;
-    while i < n {
-        let s = stops[i];
-        ps[i] = stop_units(s, line);
-        i += 1;
+    let mut ps = [None; 16];
+    for (i, s) in stops[..n].iter().enumerate() {
+        ps[i] = stop_units(*s, line);
     }
     ps
 }
 
 // ---- (a): an unplaced first stop gets 0, an unplaced last one the line length
 
-fn or_at(p: u32, z: u32) -> u32
-    requires { 0 < z }
+fn or_at(p: Option<u32>, z: u32) -> Option<u32>
     ensures { spot result ≡ or_at (unbiased z) (spot p) }
 {
-    if p == 0 { z } else { p }
+    p.or(Some(z))
 }
 
-fn place_ends(ps: &mut [u32], line: u32)
+fn place_ends(ps: &mut [Option<u32>], line: u32)
     requires { (0 < length ps.old) × (line ≤ longest) }
     ensures { map spot ps.new ≡ ends_placed line (map spot ps.old) }
 {
@@ -84,28 +74,16 @@ fn place_ends(ps: &mut [u32], line: u32)
 
 // ---- (b): a placed stop below the greatest earlier placed stop is raised to it
 
-fn greater(a: u32, b: u32) -> u32
-    ensures { result ≡ max a b }
-{
-    if a < b { b } else { a }
-}
-
-fn raised_to(p: u32, g: u32) -> u32
-    ensures { result ≡ raised_biased p g }
-{
-    if p == 0 { 0 } else { greater(g, p) }
-}
-
-fn raise_stops(ps: &mut [u32])
+// No position is below 0, biased.
+fn raise_stops(ps: &mut [Option<u32>])
     ensures { map spot ps.new ≡ raised (map spot ps.old) }
 {
-    let mut g: u32 = 0;
-    let mut i: usize = 0;
-    while i < ps.len() {
-        let p = raised_to(ps[i], g);
-        ps[i] = p;
-        g = greater(g, p);
-        i += 1;
+    let mut greatest: u32 = 0;
+    for p in ps.iter_mut() {
+        if let Some(u) = *p {
+            greatest = greatest.max(u);
+            *p = Some(greatest);
+        }
     }
 }
 
@@ -118,24 +96,17 @@ struct Next {
     run: usize,
 }
 
-fn next_placed(ps: &[u32], from: usize) -> Next
-    requires { from ≤ length ps.now }
-    ensures { Follows (drop from ps.now) result.at result.run }
+fn next_placed(ps: &[Option<u32>]) -> Next
+    ensures { Follows ps.now result.at result.run }
 {
-    let mut i = from;
-    while i < ps.len() {
-        let p = ps[i];
-        if p != 0 {
-            return Next {
-                at: p,
-                run: i - from,
-            };
+    for (run, p) in ps.iter().enumerate() {
+        if let Some(at) = *p {
+            return Next { at, run };
         }
-        i += 1;
     }
     Next {
         at: numbers::BIAS,
-        run: i - from,
+        run: ps.len(),
     }
 }
 
@@ -148,43 +119,41 @@ fn part_way(a: u32, b: u32, m: usize, k: usize) -> u32
     a + (d as u32)
 }
 
-// The n unplaced stops from `from` on, spaced evenly between a and b.
-fn space_run(ps: &mut [u32], from: usize, n: usize, a: u32, b: u32)
-    requires { (length ps.old ≤ 16) × Follows (drop from ps.old) b n × Ready (unbiased a) (map spot (drop from ps.old)) }
-    ensures { Spacing (spaced_so_far (unbiased a) 1 from ps.old) a b (n + 1) (n + 1) (from + n) ps.new }
+// The last placed stop is at a, and the next unplaced one is the m-th after it.
+fn space_stops(ps: &[Option<u32>]) -> [u32; 16]
+    requires { (length ps.now ≤ 16) × Ready (pos 0) (map spot ps.now) }
+    ensures { map unbiased (take (length ps.now) result) ≡ spaced (map spot ps.now) }
 {
-    let mut j: usize = 0;
-    while j < n {
-        ps[from + j] = part_way(a, b, j + 1, n + 1);
-        j += 1;
-    }
-}
-
-// Each turn spaces the unplaced stops before the next placed one, and goes on after that.
-fn space_stops(ps: &mut [u32])
-    requires { (length ps.old ≤ 16) × Ready (pos 0) (map spot ps.old) }
-    ensures { map unbiased ps.new ≡ spaced (map spot ps.old) }
-{
+    let mut out = [0u32; 16];
     let mut a: u32 = numbers::BIAS;
-    let mut i: usize = 0;
-    while i < ps.len() {
-        let t = next_placed(ps, i);
-        space_run(ps, i, t.run, a, t.at);
-        a = t.at;
-        i += t.run + 1;
+    let mut m: usize = 1;
+    for (i, p) in ps.iter().enumerate() {
+        match *p {
+            Some(u) => {
+                out[i] = u;
+                a = u;
+                m = 1;
+            }
+            None => {
+                let t = next_placed(&ps[i..]);
+                out[i] = part_way(a, t.at, m, m + t.run);
+                m += 1;
+            }
+        }
     }
+    out
 }
 
 // ---- the whole
 
 // Steps (a) to (c).
-fn fix_up(ps: &mut [u32], line: u32)
+fn fix_up(ps: &mut [Option<u32>], line: u32) -> [u32; 16]
     requires { (0 < length ps.old) × (length ps.old ≤ 16) × (line ≤ longest) }
-    ensures { map unbiased ps.new ≡ fixup line (map spot ps.old) }
+    ensures { map unbiased (take (length ps.old) result) ≡ fixup line (map spot ps.old) }
 {
     place_ends(ps, line);
     raise_stops(ps);
-    space_stops(ps);
+    space_stops(ps)
 }
 
 fn placed_stop(s: Stop, u: u32) -> PlacedStop
@@ -204,11 +173,8 @@ fn attach(stops: [Stop; 16], ps: [u32; 16], n: usize) -> PlacedStops
     ensures { result ≡ listed (at_positions (take n stops) (map unbiased (take n ps))) }
 {
     let mut out = [stops::blank_placed(); 16];
-    let mut i: usize = 0;
-    while i < n {
-        let s = stops[i];
-        out[i] = placed_stop(s, ps[i]);
-        i += 1;
+    for (i, s) in stops[..n].iter().enumerate() {
+        out[i] = placed_stop(*s, ps[i]);
     }
     PlacedStops {
         count: n as u32,
@@ -226,8 +192,7 @@ fn positions_in_box(g: Gradient, w: usize, h: usize) -> [u32; 16]
     let n = g.count as usize;
     let stops = g.stops;
     let mut ps = list_units(stops, n, line);
-    fix_up(&mut ps[..n], line);
-    ps
+    fix_up(&mut ps[..n], line)
 }
 
 // The stops of a gradient, placed in a box.
@@ -240,29 +205,20 @@ pub fn place_in_box(g: Gradient, w: usize, h: usize) -> PlacedStops
     attach(stops, positions_in_box(g, w, h), n)
 }
 
-fn place_reply(g: Gradient, w: usize, h: usize) -> u32
-    ensures { result ≡ place_reply g w h }
+// Judges a box and a gradient.
+#[tactic(auto, using(replies::proofs::Laws::refused_first, replies::proofs::Laws::done_next), unfolding(crate::specs::Reply::place_reply))]
+fn place_reply(g: Gradient, w: usize, h: usize) -> Result<(), Refusal>
+    ensures { reply_of result ≡ place_reply g w h }
 {
-    let r = replies::box_reply(w, h);
-    if r != DONE {
-        return r;
-    }
+    replies::box_reply(w, h)?;
     gradient::check(g)
 }
 
-// The stops of a gradient, placed in a box, or the reply to a gradient or a box that is not accepted.
-pub fn place(g: Gradient, w: usize, h: usize) -> Placing
-    ensures { result ≡ place_of g w h }
+// The stops of a gradient, placed in a box, where the box and the gradient are accepted.
+#[tactic(auto, using(crate::proofs::Replies::ok_placed))]
+pub fn place(g: Gradient, w: usize, h: usize) -> Result<PlacedStops, Refusal>
+    ensures { placing result ≡ place_of g w h }
 {
-    let reply = place_reply(g, w, h);
-    if reply != DONE {
-        return Placing {
-            reply: reply,
-            stops: stops::no_stops(),
-        };
-    }
-    Placing {
-        reply: reply,
-        stops: place_in_box(g, w, h),
-    }
+    place_reply(g, w, h)?;
+    Ok(place_in_box(g, w, h))
 }

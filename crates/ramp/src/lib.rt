@@ -13,10 +13,10 @@ ghost use Rattle.color.specs.Paint.{paint_of};
 ghost use Rattle.color.specs.Numbers.{Lendable};
 ghost use Rattle.walk.specs.Walk.{most_steps};
 ghost use Rattle.ramp.specs.Ramp.{most_stops, head_size, location_limit, positions_in, values_in, repeats_in, period_in, table_in, base_in, color_in, Spread, Stops, Ramp, Holds, Made, Like, Held, Biased};
-ghost use Rattle.picture.specs.Picture.{patched};
 
+use repeats::RepeatedStops;
 use stops::PlacedStops;
-use table::Stretch;
+use table::{LentStops, Stretch};
 
 // The word that is the number of stops.
 const COUNT: usize = 0;
@@ -24,7 +24,8 @@ const COUNT: usize = 0;
 // The word that is the table's first location.
 const BASE: usize = 1;
 
-// The word that is 1 where the stops are repeated.
+// The word that is 1 where the stops are repeated, and else 0.
+// Kept: a ramp is one slice of words in fixed memory, of a size that its caller chooses.
 const REPEATS: usize = 2;
 
 // The first word of the positions.
@@ -62,6 +63,27 @@ fn values(ramp: &[u32]) -> &[u32]
 {
     let e = VALUES + 4 * count(ramp);
     &ramp[VALUES..e]
+}
+
+// The stops.
+fn lent_stops(ramp: &[u32]) -> LentStops<'_>
+    requires { Stops ramp.now }
+    ensures { (result.positions.now ≡ positions_in ramp.now) × (result.values.now ≡ values_in ramp.now) }
+{
+    LentStops {
+        positions: positions(ramp),
+        values: values(ramp),
+    }
+}
+
+// The stops, where they are repeated.
+fn repeated_stops(ramp: &[u32]) -> RepeatedStops<'_>
+    requires { Stops ramp.now × (repeats_in ramp.now ≡ true) }
+    ensures { (result.stops.positions.now ≡ positions_in ramp.now) × (result.stops.values.now ≡ values_in ramp.now) }
+{
+    RepeatedStops {
+        stops: lent_stops(ramp),
+    }
 }
 
 // Whether the stops are repeated.
@@ -114,9 +136,9 @@ pub fn color_by_stops(ramp: &[u32], s: u64) -> u32
 {
     let at = numbers::WIDE_BIAS + s;
     if is_repeated(ramp) {
-        return repeats::color_of(positions(ramp), values(ramp), at);
+        return repeated_stops(ramp).color_of(at);
     }
-    table::color_of(positions(ramp), values(ramp), at)
+    lent_stops(ramp).color_of(at)
 }
 
 // From the table, too, where stops that are repeated have the same color there, else from the stops.
@@ -157,9 +179,9 @@ fn biased_stretch(ramp: &[u32], at: u32) -> Stretch
     ensures { Biased ramp.now result }
 {
     if is_repeated(ramp) {
-        return repeats::stretch_at(positions(ramp), values(ramp), at, numbers::BIAS);
+        return repeated_stops(ramp).stretch_at(at, numbers::BIAS);
     }
-    table::stretch_at(positions(ramp), values(ramp), at, numbers::BIAS)
+    lent_stops(ramp).stretch_at(at, numbers::BIAS)
 }
 
 // The stretch of locations that s is in, or one of no locations.
@@ -183,21 +205,9 @@ pub fn fill_spaced(t: &mut [u32], ramp: &[u32], base: u32, stride: u32)
 {
     let first = numbers::BIAS + base;
     if is_repeated(ramp) {
-        repeats::fill_spaced(t, positions(ramp), values(ramp), first, stride);
+        repeated_stops(ramp).fill_spaced(t, first, stride);
     } else {
-        table::fill_spaced(t, positions(ramp), values(ramp), first, stride);
-    }
-}
-
-// Copies `words` into the ramp from `at` on.
-fn store(ramp: &mut [u32], at: usize, words: &[u32])
-    requires { at + length words.now ≤ length ramp.old }
-    ensures { ramp.new ≡ patched ramp.old at words.now }
-{
-    let mut i = 0;
-    while i < words.len() {
-        ramp[at + i] = words[i];
-        i += 1;
+        lent_stops(ramp).fill_spaced(t, first, stride);
     }
 }
 
@@ -243,7 +253,7 @@ fn set_head(ramp: &mut [u32], stops: &[u32], base: u32)
     requires { (head_size ≤ length stops.now) × (head_size ≤ length ramp.old) }
     ensures { (take head_size ramp.new ≡ set (take head_size stops.now) 1 base) × (length ramp.new ≡ length ramp.old) }
 {
-    store(ramp, 0, &stops[..HEAD]);
+    ramp[..HEAD].copy_from_slice(&stops[..HEAD]);
     ramp[BASE] = base;
 }
 

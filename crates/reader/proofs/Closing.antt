@@ -5,9 +5,14 @@ use mathlib.Core.List.{List, [], ◌∷◌, ◌++◌}
 use Prim.Native.Nat.{ℕ, zero, suc, ◌+◌, ◌-◌, ◌≤◌, ◌<◌}
 use native.Mathlib.Omega.{arith}
 use lib.Dec.{eqb}
-use lib.ListN.{length, get_or, take, drop, drop_of_length-le, take-append-drop}
+use lib.ListN.{length, get_or, take, drop, take-append-drop, length-drop}
 use lib.Seq.{drop-cons, drop-drop}
 use borrow.Author.Tests.{eqb-true, eq-eqb, ne_eqb}
+use Rattle.std.proofs.lemmas.List.{get_or-take, get_or-drop}
+use Rattle.std.proofs.lemmas.List.{take-take}
+use Rattle.std.specs.Char.{is_ascii_whitespace}
+use Rattle.text.proofs.Space.{same_space}
+use Rattle.std.specs.Str.{IsTrimAsciiEnd, IsAsciiWhitespaceFrom}
 use Rattle.text.specs.Text.{is, is_nil, is_space, past, peek_of, rest_of, Read, got, refused, map_read}
 use Rattle.reader.specs.Text.{closes_of, body_of}
 
@@ -18,10 +23,6 @@ Blank l = is_nil (past is_space l) ≡ true
 bracket : (b : ℕ) → b ≡ 41 → is_space b ≡ false
 unfolding is_space
 bracket b e = rw e
-
-pub blank-end : (l : List ℕ) → Blank (drop (length l) l)
-unfolding past
-blank-end l = rw (drop_of_length-le l {i = length l} (omega arith))
 
 blank-more : (b : ℕ) (l : List ℕ) → is_space b ≡ true → Blank l → Blank (b ∷ l)
 unfolding past
@@ -77,16 +78,8 @@ module _ (b : ℕ) (y : List ℕ) (h : is_space b ≡ false) (k : Blank y) where
 
 -- the text s from a place on, with white space alone from another place on
 module _ (s : List ℕ) (from end : ℕ) (k : Blank (drop end s)) where
-  pub close-none : end ≤ from → refused ≡ body_of (drop from s)
-  close-none h =
-      let e : end + (from - end) ≡ from = omega arith in
-      blank-body _ (rw (drop-drop (from - end) end s, e) at (blank-drop (from - end) _ k))
-
   -- the byte before that place
   module _ {i : ℕ} (e : suc i ≡ end) (h : i < length s) where
-    pub close-back : is_space (get_or s i 0) ≡ true → Blank (drop i s)
-    close-back t = rw (drop-cons s i 0 h) (blank-more _ _ t (rw (sym e) at k))
-
     close-last : from ≤ i → is_space (get_or s i 0) ≡ false → cond (is ")" (get_or s i 0)) (got (take (i - from) (drop from s)) []) refused ≡ body_of (drop from s)
     close-last f t =
         let g : from + (i - from) ≡ i = omega arith in
@@ -94,8 +87,43 @@ module _ (s : List ℕ) (from end : ℕ) (k : Blank (drop end s)) where
         last_byte (get_or s i 0) (drop (suc i) s) t (rw (sym e) at k) (take (i - from) (drop from s))
         ∙ ap body_of (ap (λ (l : List ℕ). take (i - from) (drop from s) ++ l) (sym m) ∙ take-append-drop (i - from) (drop from s))
 
-    pub close-here : from ≤ i → get_or s i 0 ≡ 41 → got (take (i - from) (drop from s)) [] ≡ body_of (drop from s)
-    close-here f t = rw (eq-eqb _ 41 t) at (close-last f (bracket _ t))
+blank-all : (l : List ℕ) → ((i : ℕ) → i < length l → is_space (get_or l i 0) ≡ true) → Blank l
+unfolding past
+blank-all [] h = refl
+blank-all (b ∷ l) h = blank-more b l (h 0 (omega arith)) (blank-all l (λ i k. h (suc i) (omega (arith, k))))
 
-    pub close_other : from ≤ i → (get_or s i 0 ≡ 41 → ⊥) → is_space (get_or s i 0) ≡ false → refused ≡ body_of (drop from s)
-    close_other f t u = rw (ne_eqb _ 41 t) at (close-last f u)
+-- the text s without the white space at its end: its first n bytes
+module _ (s : List ℕ) (n : ℕ) (within : n ≤ length s) (from : IsAsciiWhitespaceFrom s n) where
+  blank-from : Blank (drop n s)
+  blank-from = blank-all (drop n s) (λ i k. let m : length (drop n s) ≡ length s - n = length-drop n s in
+      rw (get_or-drop n s i 0) (sym (same_space _) ∙ from (n + i) (omega arith) (omega (arith, k, m))))
+
+  module _ (stops : 0 < n → is_ascii_whitespace (get_or s (n - 1) 0) ≡ false) (some : 1 ≤ n) where
+    trimmed-last : cond (eqb (get_or s (n - 1) 0) 41) (got (take (n - 1) s) []) refused ≡ body_of s
+    trimmed-last =
+        let e : suc (n - 1) ≡ n = omega arith in
+        let z : n - 1 - 0 ≡ n - 1 = omega arith in
+        rw z at (close-last s 0 n blank-from {i = n - 1} e (omega arith) (omega arith) (sym (same_space _) ∙ stops some))
+
+-- r is what the code finds it to be
+front : (s r : List ℕ) (n : ℕ) → r ≡ take n s → 1 ≤ n → (get_or r (n - 1) 0 ≡ get_or s (n - 1) 0) × (take (n - 1) r ≡ take (n - 1) s)
+front s r n e k = rw e (get_or-take n s (n - 1) 0 (omega arith), take-take (n - 1) n s (omega arith))
+
+pub body-got : (s r : List ℕ) → IsTrimAsciiEnd s r → 1 ≤ length r → get_or r (length r - 1) 0 ≡ 41 → got (take (length r - 1) r) [] ≡ body_of s
+body-got s r (n, e, len, within, from, stops) k q =
+    let m : 1 ≤ n = omega (arith, len, k) in
+    let f = front s r n e m in
+    let a : get_or s (n - 1) 0 ≡ 41 = sym f.0 ∙ rw len at q in
+    rw (len, f.1) (rw (eq-eqb (get_or s (n - 1) 0) 41 a) at (trimmed-last s n within from stops m))
+
+pub body-other : (s r : List ℕ) → IsTrimAsciiEnd s r → 1 ≤ length r → (get_or r (length r - 1) 0 ≡ 41 → ⊥) → refused ≡ body_of s
+body-other s r (n, e, len, within, from, stops) k q =
+    let m : 1 ≤ n = omega (arith, len, k) in
+    let f = front s r n e m in
+    let a : get_or s (n - 1) 0 ≡ 41 → ⊥ = λ x. q (rw len (f.0 ∙ x)) in
+    rw (ne_eqb (get_or s (n - 1) 0) 41 a) at (trimmed-last s n within from stops m)
+
+pub body-end : (s r : List ℕ) → IsTrimAsciiEnd s r → length r < 1 → refused ≡ body_of s
+body-end s r (n, e, len, within, from, stops) k =
+    let z : n ≡ 0 = omega (arith, len, k) in
+    blank-body s (rw z at (blank-from s n within from))

@@ -26,13 +26,16 @@ use Rattle.circles.specs.Circle.{radial_of}
 use Rattle.circles.proofs.Cut.{cut_shape, radial-cut, shape-in-cut, shape-kept}
 use Rattle.stoplist.specs.Stops.{items_of, two_stops_of}
 use Rattle.stoplist.specs.View.{list_of}
-use Rattle.text.proofs.Whole.{whole-map}
+use Rattle.text.proofs.WholeTexts.{whole-map}
 use Rattle.stoplist.proofs.Cut.{cut_stop, two-stops-cut, all-in-cut, stops-kept}
 use Rattle.reader.specs.declared.Kind.{Kind}
 use Rattle.reader.specs.declared.Kind.TheVariants as K
+use Rattle.reader.specs.declared.Draft.{Draft}
 use Rattle.reader.specs.Written.{Written, written}
 use Rattle.reader.specs.Text.{first, others, with_stops, by_direction, linear_of, circular_of, of_kind, kind_of, body_of, function_of, gradient_of}
-use Rattle.reader.specs.Reading.{written_reply, grammar_reply, gradient_in, value_of, answered, read_reply, read_of}
+use Rattle.std.specs.Prelude.{Option, Some, None}
+use Rattle.replies.specs.Replies.{malformed}
+use Rattle.reader.specs.Reading.{Reading, written_reply, grammar_reply, gradient_in, value_of, answered, read_reply, read_of}
 use Rattle.reader.specs.View.{draft_of, draft_reply, concluded}
 
 abbrev pub cut_written : Written → Written
@@ -81,7 +84,12 @@ count-16 n = go (ltb 16 n) refl
     go true e = let h = ltb-true 16 n e in lt-ltb 16 (min n 17) (omega arith)
     go false e = let h = ltb-false 16 n e in le-ltb 16 (min n 17) (omega arith)
 
-judged : (w : Written) (k : List ℕ) → concluded (draft_of (got (cut_written w) k)) ≡ answered (written_reply w) (value_of w)
+-- what the code answers to a draft, or to none
+abbrev pub answer : Option Draft → Reading
+answer (Some d) = concluded d
+answer None = answered malformed blank_gradient
+
+judged : (w : Written) (k : List ℕ) → answer (draft_of (got (cut_written w) k)) ≡ answered (written_reply w) (value_of w)
 unfolding draft_reply list_of
 judged w k = go (shape_in w.shape) (all stop_in w.stops) (ltb 16 (length w.stops)) refl refl refl
   where
@@ -89,7 +97,7 @@ judged w k = go (shape_in w.shape) (all stop_in w.stops) (ltb 16 (length w.stops
     many = ap (λ (n : ℕ). ltb 16 (min n 17)) (length-map w.stops cut_stop) ∙ count-16 (length w.stops)
 
     go : (a b t : Bool) → shape_in w.shape ≡ a → all stop_in w.stops ≡ b → ltb 16 (length w.stops) ≡ t
-        → concluded (draft_of (got (cut_written w) k)) ≡ answered (written_reply w) (value_of w)
+        → answer (draft_of (got (cut_written w) k)) ≡ answered (written_reply w) (value_of w)
     go false b t p q r = rw (shape-in-cut w.shape, p)
     go true false t p q r = rw (shape-in-cut w.shape, p, all-in-cut w.stops, q)
     go true true true p q r = rw (shape-in-cut w.shape, p, all-in-cut w.stops, q, many, r)
@@ -97,13 +105,13 @@ judged w k = go (shape_in w.shape) (all stop_in w.stops) (ltb 16 (length w.stops
         let n : min (length w.stops) 17 ≡ length w.stops = let h = ltb-false 16 (length w.stops) r in omega arith in
         rw (shape-kept w.shape p, stops-kept w.stops q, p, q, count-16 (length w.stops), r, n)
 
-pub read_is : (s : List ℕ) → length s ≤ 1024 → concluded (draft_of (gradient_of cut s)) ≡ read_of s
+pub read_is : (s : List ℕ) → length s ≤ 1024 → answer (draft_of (gradient_of cut s)) ≡ read_of s
 unfolding read_of read_reply draft_reply
 read_is s h = rw (le-ltb 1024 (length s) h, function-cut (past is_space s)) (go (function_of exact (past is_space s)))
   where
-    none : concluded (draft_of refused) ≡ answered 4 blank_gradient
+    none : answer (draft_of refused) ≡ answered 4 blank_gradient
     none = refl
 
-    go : (r : Read Written) → concluded (draft_of (map_read cut_written r)) ≡ answered (grammar_reply r) (gradient_in r)
+    go : (r : Read Written) → answer (draft_of (map_read cut_written r)) ≡ answered (grammar_reply r) (gradient_in r)
     go (got w k) = judged w k
     go refused = none

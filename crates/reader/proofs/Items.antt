@@ -2,11 +2,8 @@
 use mathlib.Core.Path.{◌≡◌, refl, sym, ap, ◌∙◌}
 use mathlib.Core.Bool.{Bool}
 use mathlib.Core.List.{List, [], ◌∷◌}
-use Prim.Native.Nat.{ℕ, ◌+◌, ◌-◌}
+use Prim.Native.Nat.{ℕ}
 use native.Mathlib.Omega.{arith}
-use lib.IntN.{ℤ}
-use lib.ListN.{length, take, drop}
-use borrow.Author.Tests.{le-leb}
 use Rattle.text.specs.Text.{Read, got, refused, ◌>>=◌, whole_of}
 use Rattle.gradient.specs.declared.Side.TheVariants as S
 use Rattle.gradient.specs.declared.Direction.{Direction}
@@ -16,48 +13,56 @@ use Rattle.gradient.specs.declared.Shape.TheVariants as Sh
 use Rattle.gradient.specs.declared.Stop.{Stop}
 use Rattle.directions.specs.Direction.{direction_of}
 use Rattle.circles.specs.Circle.{radial_of}
-use Rattle.stoplist.specs.Stops.{items_of, two_stops_of}
-use Rattle.stoplist.specs.View.{CommaAt, items_from, listing_of}
-use Rattle.stoplist.proofs.Laws.{items_more}
+use Rattle.stoplist.specs.Stops.{items_of, stops_of, two_stops_of}
+use Rattle.stoplist.specs.View.{list_in}
+use Rattle.stoplist.specs.declared.StopList.{StopList}
+use Rattle.std.specs.Prelude.{Some, None}
+use Rattle.std.specs.Option.{option_map}
+use Rattle.tokens.specs.Cut.{cut}
 use Rattle.reader.specs.Written.{written}
 use Rattle.reader.specs.Text.{with_stops, by_direction, linear_of, circular_of, first}
-use Rattle.reader.specs.View.{draft_of, drafted, no_draft}
+use Rattle.reader.specs.View.{draft_of}
 
--- a shape beside its stops, as the code keeps them
-with-stops-is : (keep : ℤ → ℤ) (shape : Shape) (b : Bool) (items : List (List ℕ)) → drafted shape b (listing_of (two_stops_of keep items)) ≡ draft_of (with_stops keep shape b items)
-unfolding with_stops
-with-stops-is keep shape b items = go (two_stops_of keep items)
-  where
-    go : (r : Read (List Stop)) → drafted shape b (listing_of r) ≡ draft_of (r >>= λ ss _. got (written shape b ss) [])
-    go (got ss k) = refl
-    go refused = refl
+some-none : {A : Type 0} {x : A} → Some x ≡ None → ⊥
+some-none e = let w : ◌≡◌ {A = ℕ} 0 1 = cc in omega arith
 
--- the items of a body: the first, up to its comma, and those after it
-module _ (keep : ℤ → ℤ) (b : Bool) (l : List ℕ) (r : ℕ) (w : CommaAt l 0 r) where
-  all-items : items_from l 0 ≡ items_of l
-  all-items = rw (le-leb 0 (length l) (omega arith))
+-- a shape beside its stops, as the code keeps them: those that it reads, or none
+module _ (shape : Shape) (b : Bool) where
+  pub stops-got : {t : StopList} (items : List (List ℕ)) → Some t ≡ list_in (two_stops_of cut items) → Some (record { shape = shape; repeating = b; list = t }) ≡ draft_of (with_stops cut shape b items)
+  unfolding with_stops
+  stops-got {t} items e = go (two_stops_of cut items) e
+    where
+      go : (r : Read (List Stop)) → Some t ≡ list_in r → Some (record { shape = shape; repeating = b; list = t }) ≡ draft_of (r >>= λ ss _. got (written shape b ss) [])
+      go (got ss k) h = ap (option_map (λ (l : StopList). record { shape = shape; repeating = b; list = l })) h
+      go refused h = absurd (some-none h)
 
-  split : items_of l ≡ take (r - 0) (drop 0 l) ∷ items_from l (r + 1)
-  split = sym all-items ∙ items_more l 0 r (omega arith) w
+  pub stops-none : (items : List (List ℕ)) → None ≡ list_in (two_stops_of cut items) → None ≡ draft_of (with_stops cut shape b items)
+  unfolding with_stops
+  stops-none items e = go (two_stops_of cut items) e
+    where
+      go : (r : Read (List Stop)) → None ≡ list_in r → None ≡ draft_of (r >>= λ ss _. got (written shape b ss) [])
+      go (got ss k) h = absurd (some-none (sym h))
+      go refused h = refl
 
-  pub linear-got : {d : Direction} {k : List ℕ} → got d k ≡ whole_of (direction_of keep) (take (r - 0) (drop 0 l))
-      → drafted (Sh.Linear d) b (listing_of (two_stops_of keep (items_from l (r + 1)))) ≡ draft_of (linear_of keep b l)
+-- no items are no stops
+pub no-items : (shape : Shape) (b : Bool) → None ≡ draft_of (with_stops cut shape b [])
+unfolding with_stops two_stops_of stops_of
+no-items shape b = refl
+
+-- the items of a body: the first, and those after it
+module _ (b : Bool) (l : List ℕ) {i : List ℕ} {more : List (List ℕ)} (split : items_of l ≡ i ∷ more) where
+  pub linear-got : {d : Direction} → got d [] ≡ whole_of (direction_of cut) i → draft_of (with_stops cut (Sh.Linear d) b more) ≡ draft_of (linear_of cut b l)
   unfolding linear_of
-  linear-got {d} e = rw (split, ← e) (with-stops-is keep (Sh.Linear d) b (items_from l (r + 1)))
+  linear-got {d} e = rw (split, ← e)
 
-  pub linear-none : refused ≡ whole_of (direction_of keep) (take (r - 0) (drop 0 l))
-      → drafted (Sh.Linear (D.Side S.Bottom)) b (listing_of (two_stops_of keep (items_from l 0))) ≡ draft_of (linear_of keep b l)
+  pub linear-none : refused ≡ whole_of (direction_of cut) i → draft_of (with_stops cut (Sh.Linear (D.Side S.Bottom)) b (items_of l)) ≡ draft_of (linear_of cut b l)
   unfolding linear_of
-  linear-none e =
-      with-stops-is keep (Sh.Linear (D.Side S.Bottom)) b (items_from l 0)
-      ∙ ap (λ (x : List (List ℕ)). draft_of (with_stops keep (Sh.Linear (D.Side S.Bottom)) b x)) all-items
-      ∙ ap (λ (q : Read Direction). draft_of (by_direction keep q b (items_of l))) (e ∙ ap (λ (x : List (List ℕ)). whole_of (direction_of keep) (first x)) (sym split))
+  linear-none e = ap (λ (q : Read Direction). draft_of (by_direction cut q b (items_of l))) (e ∙ ap (λ (x : List (List ℕ)). whole_of (direction_of cut) (first x)) (sym split))
 
-  pub circular-got : {shape : Shape} {k : List ℕ} → got shape k ≡ whole_of (radial_of keep) (take (r - 0) (drop 0 l))
-      → drafted shape b (listing_of (two_stops_of keep (items_from l (r + 1)))) ≡ draft_of (circular_of keep b l)
+  pub circular-got : {shape : Shape} → got shape [] ≡ whole_of (radial_of cut) i → draft_of (with_stops cut shape b more) ≡ draft_of (circular_of cut b l)
   unfolding circular_of
-  circular-got {shape} e = rw (split, ← e) (with-stops-is keep shape b (items_from l (r + 1)))
+  circular-got {shape} e = rw (split, ← e)
 
-  pub circular-none : refused ≡ whole_of (radial_of keep) (take (r - 0) (drop 0 l)) → no_draft ≡ draft_of (circular_of keep b l)
+  pub circular-none : refused ≡ whole_of (radial_of cut) i → None ≡ draft_of (circular_of cut b l)
   unfolding circular_of
   circular-none e = rw (split, ← e)

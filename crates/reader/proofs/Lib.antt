@@ -1,3 +1,4 @@
+pub mod Answered
 pub mod Closing
 pub mod Items
 pub mod Cut

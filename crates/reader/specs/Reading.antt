@@ -1,7 +1,9 @@
 -- The answer to a text: the reply, and the gradient where it is 0.
 -- Assumes nothing.
-use Rattle.std.specs.Prelude.{ℕ, Bool, cond, not, ◌&&◌, List, eqb, ltb, length}
-use Rattle.replies.specs.Replies.{long_text, malformed, out_of_range, too_many_stops, given, ◌or_else◌}
+use Rattle.std.specs.Prelude.{ℕ, Bool, cond, not, ◌&&◌, List, eqb, ltb, length, Result, Ok, Err}
+use Rattle.replies.specs.Replies.{done, long_text, malformed, out_of_range, too_many_stops, given, ◌or_else◌}
+use Rattle.replies.specs.Refused.{number}
+use Rattle.replies.specs.declared.Refusal.{Refusal}
 use Rattle.text.specs.Text.{Read, got, refused}
 use Rattle.tokens.specs.Number.{exact}
 use Rattle.gradient.specs.declared.Gradient.{Gradient}
@@ -9,9 +11,18 @@ use Rattle.gradient.specs.Lists.{all}
 use Rattle.gradient.specs.Blank.{blank_gradient}
 use Rattle.gradient.specs.Range.{shape_in, stop_in}
 use Rattle.stoplist.specs.View.{places}
-use Rattle.reader.specs.declared.Reading.{Reading}
 use Rattle.reader.specs.Written.{Written}
 use Rattle.reader.specs.Text.{gradient_of}
+
+-- the reply to a text, and the gradient where it is 0, the blank one where it is not
+pub record Reading : Type 0 where
+  pub reply : ℕ
+  pub gradient : Gradient
+
+-- what the code answers, as that
+abbrev pub reading : Result Gradient Refusal → Reading
+reading (Ok g) = record { reply = done; gradient = g }
+reading (Err r) = record { reply = number r; gradient = blank_gradient }
 
 -- whether every number is in its range
 abbrev pub written_in : Written → Bool

@@ -2,13 +2,15 @@
 -- Assumes nothing.
 use mathlib.Core.Path.{◌≡◌, refl, sym, ap, ap₂, ◌∙◌}
 use mathlib.Core.List.{List, ◌++◌}
-use Prim.Native.Nat.{ℕ, suc, ◌+◌, ◌-◌, ◌*◌, ◌/◌, ◌%◌, ◌≤◌, ◌<◌}
+use Prim.Native.Nat.{ℕ, suc, min, ◌+◌, ◌-◌, ◌*◌, ◌/◌, ◌%◌, ◌≤◌, ◌<◌}
 use native.Mathlib.Nat.{mul-le-mul_right, div-mul-le_self, lt-div-mul-add, lt_of_mul-lt-mul_right}
 use native.Mathlib.Omega.{arith}
 use lib.IntN.{ℤ}
-use lib.ListN.{length, get_or, set, take, drop, length-append, length-drop, get_or-append}
-use lib.Seq.{get_or-set_same, get_or-set_other, get_or-take, get_or-append-add, length-take-le}
-use native.Mathlib.Decide.{dec_le}
+use lib.ListN.{length, get_or, take, drop, length-append, length-drop, get_or-append}
+use lib.Seq.{get_or-take, get_or-append-add, length-take-le}
+use Rattle.std.specs.Int.{IsGcd}
+use Rattle.std.proofs.lemmas.Nat.Gcd.{dvd_trans, dvd_of_mod-eq-zero, mod-eq-zero_of_dvd}
+use Rattle.std.proofs.Math.Nat.{div-mul_cancel, mul-div_cancel', mul-mod_right, mul-dvd-mul_right, dvd-mul_right, pos_of_dvd_of_pos}
 use Rattle.numbers.specs.Biased.{bias, unbiased}
 use Rattle.color.specs.Stop.{Stop, no_stop}
 use Rattle.color.specs.Byte.{units, bytes, color_at}
@@ -89,16 +91,22 @@ piece-within d s m h k =
     let t = piece-fits d s (suc m) k in
     omega arith
 
--- one entry more
-pub filled_more : (f : ℕ → ℕ) (t : List ℕ) (k v : ℕ) → ((i : ℕ) → i < k → i < length t → get_or t i 0 ≡ f i) → k < length t → v ≡ f k
-    → (i : ℕ) → i < k + 1 → i < length t → get_or (set t k v) i 0 ≡ f i
-filled_more f t k v h l e i m n = either (dec_le k i)
-  where
-    either : Dec (k ≤ i) → get_or (set t k v) i 0 ≡ f i
-    either (yes p) =
-        let q : i ≡ k = omega arith in
-        rw q (get_or-set_same t k v 0 l ∙ e)
-    either (no p) = get_or-set_other t k i v 0 (λ q. omega arith) ∙ h i (omega arith) n
+-- ---- after how many entries s units apart the colors come again, where the period is p
+pub divisor-some : (p s g : ℕ) → IsGcd p s g → 0 < p → (0 < p / g) × (0 < g)
+divisor-some p s g h some =
+    (pos_of_dvd_of_pos (rw (div-mul_cancel g h.0) at (dvd-mul_right (p / g) g)) some, pos_of_dvd_of_pos h.0 some)
+
+pub whole-periods : (p s g : ℕ) → IsGcd p s g → p / g * s % p ≡ 0
+whole-periods p s g h =
+    let a : p / g * g * (s / g) ≡ p * (s / g) = ap (λ (n : ℕ). n * (s / g)) (div-mul_cancel g h.0) in
+    let b : p / g * (g * (s / g)) ≡ p / g * s = ap (λ (n : ℕ). p / g * n) (mul-div_cancel' g h.1) in
+    let e : p / g * s ≡ p * (s / g) = omega arith in
+    ap (λ (n : ℕ). n % p) e ∙ mul-mod_right p (s / g)
+
+-- whole periods, some times
+pub more-periods : (p s q m : ℕ) → q * s % p ≡ 0 → m % q ≡ 0 → m * s % p ≡ 0
+more-periods p s q m e f =
+    mod-eq-zero_of_dvd p (dvd_trans p (dvd_of_mod-eq-zero p e) (mul-dvd-mul_right q (dvd_of_mod-eq-zero q f) s))
 
 -- a part of a list that is replaced
 pub stored-part : (f : ℕ → ℕ) (a b : ℕ) (t p rest : List ℕ) → a ≤ length t → length p ≡ b → ((k : ℕ) → k < length p → get_or p k 0 ≡ f (a + k))
@@ -114,6 +122,10 @@ stored-part f a b t p rest h o e = record {
   where
     n : length (take a t) ≡ a
     n = length-take-le a t h
+
+-- the lesser of two numbers
+pub lesser : (a b r : ℕ) → r ≡ min a b → (r ≤ b) × ((k : ℕ) → k < a → k < b → k < r)
+lesser a b r e = (omega (arith, e), λ k l m. omega (arith, e, l, m))
 
 -- the front of a list that is replaced by as many numbers of f
 pub front_length : (t p : List ℕ) (n : ℕ) → length p ≡ n → n ≤ length t → length (p ++ drop n t) ≡ length t

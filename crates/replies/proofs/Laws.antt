@@ -1,7 +1,7 @@
 -- Laws for the crates above: the order of replies, what the reply 0 says of a box, of rows and of a lent slice, and what is handed out in one.
 -- Assumes nothing.
-use mathlib.Core.Path.{◌≡◌, refl, sym, ◌∙◌}
-use mathlib.Core.Bool.{Bool, true, false, not, and-eq-true_iff}
+use mathlib.Core.Path.{◌≡◌, refl, sym, ap, ◌∙◌}
+use mathlib.Core.Bool.{Bool, true, false, not, false≢true, and-eq-true_iff}
 use mathlib.Core.List.{List}
 use Prim.Native.Nat.{ℕ, zero, suc, ◌-◌, ◌*◌, ◌≤◌, ◌<◌}
 use native.Mathlib.Nat.{le_refl, sub-zero}
@@ -10,9 +10,14 @@ use lib.ListN.{length, replicate}
 use borrow.Author.Tests.{ltb-true, ltb-false, lt-ltb, le-ltb, leb-true, le-leb, not-false}
 use Rattle.picture.specs.Picture.{padded}
 use Rattle.picture.proofs.Patches.{refused}
-use Rattle.replies.specs.Replies.{bad_box, given, ◌or_else◌, lowest}
+use Rattle.replies.specs.Replies.{done, bad_box, given, ◌or_else◌, lowest}
 use Rattle.replies.specs.Room.{box_in, box_reply, rows_in, rows_reply, size_reply, room_for, strip_reply, room_reply}
 use Rattle.replies.specs.Handed.{Handed}
+use Rattle.replies.specs.Refused.{number, reply_of}
+use Rattle.replies.specs.declared.Refusal.{Refusal}
+use Rattle.replies.specs.declared.Refusal.TheVariants.{BadBox, NoRoom, LongText, Malformed, OutOfRange, TooManyStops, BadRows}
+use Rattle.std.specs.Prelude.{Result, Ok, Err}
+use Rattle.std.specs.Result.{is_ok, IsErr, IsErrAnd}
 
 -- ---- no reply, the first one, the next one
 pub or_else-zero : (a b : ℕ) → a or_else b ≡ 0 → (a ≡ 0) × (b ≡ 0)
@@ -40,6 +45,35 @@ given-first b e = rw e
 
 pub given-next : {t : Bool} (n : ℕ) {b r : ℕ} → t ≡ false → r ≡ b → r ≡ given t n or_else b
 given-next n e k = rw e k
+
+-- ---- a refusal has a number above 0
+pub number-above : (e : Refusal) → 0 < number e
+number-above BadBox = omega arith
+number-above NoRoom = omega arith
+number-above LongText = omega arith
+number-above Malformed = omega arith
+number-above OutOfRange = omega arith
+number-above TooManyStops = omega arith
+number-above BadRows = omega arith
+
+pub ok-done : {A : Type 0} (r : Result A Refusal) → true ≡ is_ok r → reply_of r ≡ 0
+ok-done (Ok a) e = refl
+ok-done (Err x) e = absurd (false≢true (sym e))
+
+pub refused-above : {A : Type 0} (r : Result A Refusal) → false ≡ is_ok r → 0 < reply_of r
+refused-above (Ok a) e = absurd (false≢true e)
+refused-above (Err x) e = number-above x
+
+-- what is judged first refuses, or does not
+pub refused_first : {A : Type 0} (r : Result A Refusal) (e : Refusal) {n : ℕ} (b : ℕ) → IsErr r × IsErrAnd r (λ x. x ≡ e) → number e ≡ n → reply_of r ≡ n or_else b
+refused_first r e {n} b k h = or_else-first b (is-number r e k ∙ h) (λ z. let p = number-above e in omega (arith, is-number r e k, z))
+  where
+    is-number : {A : Type 0} (r : Result A Refusal) (e : Refusal) → IsErr r × IsErrAnd r (λ x. x ≡ e) → reply_of r ≡ number e
+    is-number (Ok a) e k = absurd (false≢true k.0)
+    is-number (Err x) e k = ap number k.1
+
+pub done_next : {n b r : ℕ} → done ≡ n → r ≡ b → r ≡ n or_else b
+done_next e k = rw (← e) k
 
 -- ---- the lower of two replies
 pub lowest-none : (a b : ℕ) → a ≡ 0 → b ≡ lowest a b

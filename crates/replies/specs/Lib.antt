@@ -1,4 +1,5 @@
 pub mod Replies
+pub mod Refused
 pub mod Room
 pub mod Handed
 pub mod Worked

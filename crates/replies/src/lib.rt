@@ -1,33 +1,57 @@
-// The reply numbers and their order, and what every call judges first: a box, the rows of a strip, and the length of a lent slice.
+// Refusals, the reply numbers that C sees of them and their order, and what every call judges first: a box, the rows of a strip, and the length of a lent
+// slice.
 #![tactic(auto)]
 
 ghost use Rattle.std.specs.Prelude.{◌≡◌, length, replicate};
 ghost use Rattle.replies.specs.Replies.{lowest};
+ghost use Rattle.replies.specs.Refused.{number, reply_of};
 ghost use Rattle.replies.specs.Room.{box_in, box_reply, rows_in, rows_reply, size_reply, room_for, strip_reply, room_reply};
 
-// None of the rows below applies.
-pub const DONE: u32 = 0;
+// Why a call is refused, in the order of the reply numbers.
+#[derive(Clone, Copy, Debug, PartialEq, Eq)]
+pub enum Refusal {
+    // Width or height outside 1 to 2,048.
+    BadBox,
+    // Buffer shorter than 4·W bytes for each row to be drawn, or lent slice shorter than the size of its layout.
+    NoRoom,
+    // Text longer than 1,024 bytes.
+    LongText,
+    // Text not in the grammar, or a gradient or stops handed in that break their layout.
+    Malformed,
+    // A number outside its range.
+    OutOfRange,
+    // More than 16 stops.
+    TooManyStops,
+    // Rows of a strip that are none, or that end below the box. It is judged after `BadBox` and before `NoRoom`.
+    BadRows,
+}
 
-// Width or height outside 1 to 2,048.
-pub const BAD_BOX: u32 = 1;
+// The reply number of a refusal; 0 is none's.
+impl From<Refusal> for u32 {
+    ghost from_gives = { λ refusal n. n ≡ number refusal };
 
-// Buffer shorter than 4·W bytes for each row to be drawn, or lent slice shorter than the size of its layout.
-pub const NO_ROOM: u32 = 2;
+    fn from(refusal: Refusal) -> u32 {
+        match refusal {
+            Refusal::BadBox => 1,
+            Refusal::NoRoom => 2,
+            Refusal::LongText => 3,
+            Refusal::Malformed => 4,
+            Refusal::OutOfRange => 5,
+            Refusal::TooManyStops => 6,
+            Refusal::BadRows => 8,
+        }
+    }
+}
 
-// Text longer than 1,024 bytes.
-pub const LONG_TEXT: u32 = 3;
-
-// Text not in the grammar, or a gradient or stops handed in that break their layout.
-pub const MALFORMED: u32 = 4;
-
-// A number outside its range.
-pub const OUT_OF_RANGE: u32 = 5;
-
-// More than 16 stops.
-pub const TOO_MANY_STOPS: u32 = 6;
-
-// Rows of a strip that are none, or that end below the box. It is given after 1 and before 2.
-pub const BAD_ROWS: u32 = 8;
+// The reply number of a call, 0 where it is not refused.
+pub fn number(reply: Result<(), Refusal>) -> u32
+    ensures { result ≡ reply_of reply }
+{
+    match reply {
+        Ok(()) => 0,
+        Err(refusal) => refusal.into(),
+    }
+}
 
 // The greatest width and height of a box.
 const SIDE_MAX: usize = 2048;
@@ -39,11 +63,15 @@ pub fn box_in(w: usize, h: usize) -> bool
     1 <= w && (w <= SIDE_MAX && (1 <= h && h <= SIDE_MAX))
 }
 
-// The reply to a box.
-pub fn box_reply(w: usize, h: usize) -> u32
-    ensures { result ≡ box_reply w h }
+// Whether a box is allowed.
+pub fn box_reply(w: usize, h: usize) -> Result<(), Refusal>
+    ensures { reply_of result ≡ box_reply w h }
 {
-    if box_in(w, h) { DONE } else { BAD_BOX }
+    if box_in(w, h) {
+        Ok(())
+    } else {
+        Err(Refusal::BadBox)
+    }
 }
 
 // Whether rows `first` up to `end` are one or more, and within a height of h.
@@ -53,74 +81,71 @@ pub fn rows_in(h: usize, first: usize, end: usize) -> bool
     first < end && end <= h
 }
 
-// The reply to the rows of a strip.
-pub fn rows_reply(h: usize, first: usize, end: usize) -> u32
-    ensures { result ≡ rows_reply h first end }
+// Whether the rows of a strip are allowed.
+pub fn rows_reply(h: usize, first: usize, end: usize) -> Result<(), Refusal>
+    ensures { reply_of result ≡ rows_reply h first end }
 {
     if rows_in(h, first, end) {
-        DONE
+        Ok(())
     } else {
-        BAD_ROWS
+        Err(Refusal::BadRows)
     }
 }
 
-// The reply to a lent slice of n bytes for an answer of `size` bytes.
-pub fn size_reply(size: usize, n: usize) -> u32
-    ensures { result ≡ size_reply size n }
+// Whether a lent slice of n bytes has room for an answer of `size` bytes.
+pub fn size_reply(size: usize, n: usize) -> Result<(), Refusal>
+    ensures { reply_of result ≡ size_reply size n }
 {
-    if n < size { NO_ROOM } else { DONE }
+    if n < size {
+        Err(Refusal::NoRoom)
+    } else {
+        Ok(())
+    }
 }
 
-// The reply to a box, and to a lent slice of n bytes for an answer of `size` bytes.
-pub fn room_for(w: usize, h: usize, size: usize, n: usize) -> u32
-    ensures { result ≡ room_for w h size n }
+// Judges a box, and a lent slice of n bytes for an answer of `size` bytes.
+#[tactic(auto, using(crate::proofs::Laws::refused_first, crate::proofs::Laws::done_next), unfolding(crate::specs::Room::room_for))]
+pub fn room_for(w: usize, h: usize, size: usize, n: usize) -> Result<(), Refusal>
+    ensures { reply_of result ≡ room_for w h size n }
 {
-    let r = box_reply(w, h);
-    if r != DONE {
-        return r;
-    }
-    size_reply(size, n)
+    box_reply(w, h).and(size_reply(size, n))
 }
 
-// The reply to a box, to rows `first` up to `end` of it, and to a buffer of n bytes for them.
-pub fn strip_reply(w: usize, h: usize, first: usize, end: usize, n: usize) -> u32
-    ensures { result ≡ strip_reply w h first end n }
+// Judges a box, rows `first` up to `end` of it, and a buffer of n bytes for them.
+#[tactic(auto, using(crate::proofs::Laws::refused_first, crate::proofs::Laws::done_next), unfolding(crate::specs::Room::strip_reply))]
+pub fn strip_reply(w: usize, h: usize, first: usize, end: usize, n: usize) -> Result<(), Refusal>
+    ensures { reply_of result ≡ strip_reply w h first end n }
 {
-    let of_box = box_reply(w, h);
-    if of_box != DONE {
-        return of_box;
-    }
-    let of_rows = rows_reply(h, first, end);
-    if of_rows != DONE {
-        return of_rows;
-    }
+    box_reply(w, h)?;
+    rows_reply(h, first, end)?;
     size_reply(4 * w * (end - first), n)
 }
 
-// The reply to a box and to a buffer of n bytes for all its rows.
-pub fn room_reply(w: usize, h: usize, n: usize) -> u32
-    ensures { result ≡ room_reply w h n }
+// Judges a box, and a buffer of n bytes for all its rows.
+pub fn room_reply(w: usize, h: usize, n: usize) -> Result<(), Refusal>
+    ensures { reply_of result ≡ room_reply w h n }
 {
     strip_reply(w, h, 0, h, n)
 }
 
-// The lower of two replies that apply.
-pub fn lower(a: u32, b: u32) -> u32
-    ensures { result ≡ lowest a b }
+// Of two replies the one with the lower number, where both refuse; else the one that does.
+pub fn lower(a: Result<(), Refusal>, b: Result<(), Refusal>) -> Result<(), Refusal>
+    ensures { reply_of result ≡ lowest (reply_of a) (reply_of b) }
 {
-    if a == DONE {
+    if a.is_ok() {
         return b;
     }
-    if b == DONE {
+    if b.is_ok() {
         return a;
     }
-    if a <= b { a } else { b }
+    if number(a) <= number(b) { a } else { b }
 }
 
-// Leaves zeros, and hands on the reply.
-pub fn refuse(buf: &mut [u8], reply: u32) -> u32
-    ensures { (result ≡ reply) × (buf.new ≡ replicate (length buf.old) 0) }
+// Leaves zeros, and hands on the refusal.
+pub fn refuse(buf: &mut [u8], refusal: Refusal) -> Refusal
+    ensures reply { result ≡ refusal }
+    ensures bytes_left { buf.new ≡ replicate (length buf.old) 0 }
 {
     picture::clear(buf);
-    reply
+    refusal
 }

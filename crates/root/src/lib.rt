@@ -9,11 +9,11 @@ ghost use Rattle.root.specs.Digits.{digits_of};
 fn root_digits(x: u64) -> u32
     ensures { result ≡ digits_of (root_of 1 x) }
 {
-    (65 - u64::leading_zeros(x)) / 2
+    (65 - x.leading_zeros()) / 2
 }
 
 // A root, and the rounds that it took to find.
-#[derive(Clone, Copy)]
+#[derive(Clone, Copy, Debug, PartialEq, Eq)]
 pub struct Found {
     pub root: u64,
     pub rounds: u32,
@@ -27,10 +27,8 @@ pub fn find(x: u64) -> Found
     let digits = root_digits(x);
     let mut q: u64 = 0;
     let mut rest: u64 = 0;
-    let mut rounds: u32 = 0;
-    while rounds < digits {
-        rounds += 1;
-        let left = 2 * (digits - rounds);
+    for round in 0..digits {
+        let left = 2 * (digits - (round + 1));
         q = 2 * q;
         let more = 2 * q + 1;
         rest = 4 * rest + (x >> left) % 4;
@@ -39,29 +37,33 @@ pub fn find(x: u64) -> Found
             q += 1;
         }
     }
-    Found { root: q, rounds }
+    Found {
+        root: q,
+        rounds: digits,
+    }
 }
 
 // The greatest whole number whose square is at most x.
+// Kept: the search of `find`, which the program roots prints with its rounds; the library's `isqrt` takes 32 rounds for every number.
 pub fn root(x: u64) -> u64
     ensures { result ≡ root_of 1 x }
 {
-    let found = find(x);
-    found.root
+    find(x).root
 }
 
 // x − g², modulo 2^64: at most 2g only where g is the root of x.
+#[tactic(auto, using(crate::proofs::Near::wrapped_is))]
 fn over_square(x: u64, g: u32) -> u64
     ensures { result ≤ 2 * g → g ≡ root_of 1 x }
 {
     let b = g as u64;
-    std::num::wrapping_sub_u64(x, b * b)
+    x.wrapping_sub(b * b)
 }
 
 // A better guess at the root of x, from a guess: from a close one mostly the root itself. Any answer is allowed.
 fn newton(x: u64, g: u32) -> u32 {
     let b = g as u64 + 1;
-    (std::num::wrapping_add_u64(b, x / b) / 2 % 4294967296) as u32
+    (b.wrapping_add(x / b) / 2 % 4294967296) as u32
 }
 
 // The root: a better guess is tried before it is searched for.
@@ -76,10 +78,11 @@ fn root_from(x: u64, g: u32) -> u64
 }
 
 // 1 where x is at least y, else 0.
+// Kept: a number and no `bool`, since `nearby` adds two of them to its guess.
 fn reaches(x: u64, y: u64) -> u64
     ensures { result ≤ 1 }
 {
-    if y <= x { 1 } else { 0 }
+    u64::from(y <= x)
 }
 
 // Of the guess and the two numbers after it, the one that may be the root of x / n. Any answer is allowed.
@@ -121,8 +124,5 @@ pub fn root_near(n: u64, x: u64, g: u32) -> u64
 pub fn ahead(before: u32, last: u32) -> u32
     ensures { (result + before + 1) % 4294967296 ≡ 2 * last % 4294967296 }
 {
-    std::num::wrapping_add_u32(
-        last,
-        std::num::wrapping_sub_u32(last, std::num::wrapping_add_u32(before, 1)),
-    )
+    last.wrapping_add(last.wrapping_sub(before.wrapping_add(1)))
 }

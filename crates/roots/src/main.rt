@@ -5,9 +5,7 @@ ghost use Rattle.std.specs.Prelude.{◌<◌, ◌≤◌};
 
 // A line that cannot be written is left out.
 fn line(rt: &impl Print, x: u64) {
-    let found = root::find(x);
-    let root = found.root;
-    let rounds = found.rounds;
+    let root::Found { root, rounds } = root::find(x);
     let _ = println!(rt; "{x} {root} {rounds}");
 }
 
@@ -30,10 +28,8 @@ fn edges_of_length(rt: &impl Print, least: u64)
 }
 
 fn all_edges(rt: &impl Print) {
-    let mut least: u64 = 1;
-    while least <= 2147483648 {
-        edges_of_length(rt, least);
-        least = 2 * least;
+    for k in 0u32..32 {
+        edges_of_length(rt, 1 << k);
     }
 }
 
@@ -41,7 +37,7 @@ fn all_edges(rt: &impl Print) {
 fn scattered(rt: &impl Print) {
     let mut x: u64 = 0;
     for k in 0u64..64 {
-        x = std::num::wrapping_add_u64(x, 11400714819323198485);
+        x = x.wrapping_add(11400714819323198485);
         line(rt, x >> k);
     }
 }

@@ -49,14 +49,9 @@ fn draw_by_locations(
     requires { Ramp ramp.now × Held ramp.now t × AlongRow r v z.w z.h j × (i + n ≤ z.w) × (at + 4 * n ≤ length buf.old) }
     ensures { buf.new ≡ patched buf.old at (part (ramp_pixel ramp.now (Line.Straight v) z.w z.h) i n j) }
 {
-    let mut k = 0;
-    let mut o = at;
-    while k < n {
-        let s = fixed::locate(r, v, z.w, z.h, i + k, j);
-        let c = color_near(ramp, t, s as u64);
-        words::put_word(buf, o, c);
-        o += 4;
-        k += 1;
+    for k in 0..n {
+        let s = fixed::location(r, v, z.w, z.h, i + k, j);
+        words::put_word(buf, at + 4 * k, color_near(ramp, t, u64::from(s)));
     }
 }
 
@@ -65,17 +60,16 @@ fn piece(t: Stretch, r: RowLine, s: u64, n: usize) -> usize
     requires { 0 < n }
     ensures { (0 < result) × (result ≤ n) }
 {
-    let most = picture::at_most(PART, n);
+    let most = PART.min(n);
     if !table::is_in(t, s) {
         return most;
     }
     let past = s - t.first;
-    let left = if r.forth == 0 {
-        past
+    let (left, step) = if r.forth == 0 {
+        (past, r.back)
     } else {
-        t.count - 1 - past
+        (t.count - 1 - past, r.forth)
     };
-    let step = if r.forth == 0 { r.back } else { r.forth };
     let m = (left / (step / fixed::ONE + 1)) as usize;
     if m < most { m + 1 } else { most }
 }
@@ -99,13 +93,9 @@ fn draw_from_stretch(t: Stretch, r: RowLine, i: usize, n: usize, at: usize, buf:
 {
     let step = fixed::step(r);
     let mut e = fixed::place(r, i) - t.first * fixed::ONE;
-    let mut k = 0;
-    let mut o = at;
-    while k < n {
-        words::put_word(buf, o, table::color_in(t, (e / fixed::ONE) as u32));
-        e = std::num::wrapping_add_u64(e, step);
-        o += 4;
-        k += 1;
+    for k in 0..n {
+        words::put_word(buf, at + 4 * k, table::color_in(t, (e / fixed::ONE) as u32));
+        e = e.wrapping_add(step);
     }
 }
 
@@ -133,6 +123,7 @@ fn draw_piece(
 }
 
 // Draws a piece of a stretch at a time.
+// Kept: a `while`, as each piece has a length of its own that is found on the way: no range goes by such steps.
 pub fn draw_by_stretches(
     ramp: &[u32],
     r: RowLine,
@@ -150,7 +141,7 @@ pub fn draw_by_stretches(
     let mut t = table::no_stretch();
     let mut k = 0;
     while k < n {
-        let s = fixed::location(r, v, z.w, z.h, i + k, j);
+        let s = u64::from(fixed::location(r, v, z.w, z.h, i + k, j));
         t = renewed(ramp, t, s);
         let m = piece(t, r, s, n - k);
         draw_piece(ramp, t, r, v, z, j, i + k, m, at + 4 * k, buf);
@@ -165,14 +156,10 @@ fn draw_from_table(t: &[u32], base: u32, r: RowLine, i: usize, n: usize, at: usi
         → buf.new ≡ patched buf.old at (part (pixel_by (rule_in (Line.Straight v) w h) color) i n j) }
 {
     let step = fixed::step(r);
-    let mut e = fixed::place(r, i) - (base as u64) * fixed::ONE;
-    let mut k = 0;
-    let mut o = at;
-    while k < n {
-        words::put_word(buf, o, t[(e / fixed::ONE) as usize]);
-        e = std::num::wrapping_add_u64(e, step);
-        o += 4;
-        k += 1;
+    let mut e = fixed::place(r, i) - u64::from(base) * fixed::ONE;
+    for k in 0..n {
+        words::put_word(buf, at + 4 * k, t[(e / fixed::ONE) as usize]);
+        e = e.wrapping_add(step);
     }
 }
 

@@ -11,7 +11,7 @@ ghost use Rattle.rows.specs.Pixel.{Placed, Drawable, ramp_pixel, strip_of};
 use line::Line;
 
 // Rows a up to b of a box of w by h pixels.
-#[derive(Clone, Copy)]
+#[derive(Debug, Clone, Copy, PartialEq, Eq)]
 pub struct Strip {
     pub w: usize,
     pub h: usize,
@@ -32,17 +32,13 @@ fn draw_row(ramp: &[u32], l: Line, w: usize, h: usize, j: usize, at: usize, buf:
     requires { Stops ramp.now × Placed l w h × (j < h) × (at + 4 * w ≤ length buf.old) }
     ensures { buf.new ≡ patched buf.old at (row (ramp_pixel ramp.now l w h) w j) }
 {
-    let mut i = 0;
-    let mut o = at;
-    let mut before: u32 = 0;
-    let mut last: u32 = 0;
-    while i < w {
+    let mut before = 0;
+    let mut last = 0;
+    for i in 0..w {
         let s = locate(l, w, h, i, j, root::ahead(before, last));
         before = last;
         last = s;
-        words::put_word(buf, o, ramp::color_by_stops(ramp, s as u64));
-        o += 4;
-        i += 1;
+        words::put_word(buf, at + 4 * i, ramp::color_by_stops(ramp, s as u64));
     }
 }
 
@@ -52,11 +48,7 @@ pub fn draw_each(ramp: &[u32], l: Line, z: Strip, buf: &mut [u8])
     ensures { buf.new ≡ patched buf.old 0 (strip_of ramp.now l z) }
 {
     let n = 4 * z.w;
-    let mut j = z.a;
-    let mut o = 0;
-    while j < z.b {
-        draw_row(ramp, l, z.w, z.h, j, o, buf);
-        o += n;
-        j += 1;
+    for j in z.a..z.b {
+        draw_row(ramp, l, z.w, z.h, j, n * (j - z.a), buf);
     }
 }

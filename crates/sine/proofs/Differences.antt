@@ -7,6 +7,7 @@ use native.Mathlib.Nat.{not-suc-le-zero, le_of_suc-le-suc}
 use native.Mathlib.Numerals.{add-one}
 use native.Mathlib.Omega.{arith}
 use lib.ListN.{length, get_or, take}
+use Rattle.std.proofs.lemmas.List.{get_or-take}
 use Rattle.sine.specs.Sines.{sines, sine_of}
 use Rattle.sine.specs.Differences.{differences_of, sum_of, rebuilt_of, Rebuilt}
 use Rattle.sine.proofs.Rules.{rules, entries, neighbors, parts}
@@ -37,7 +38,7 @@ unfolding sine_of
 sine-next k h = omega (arith, rw (← add-one k) at (difference sines k (omega (arith, entries))), rules.never-falls k h)
 
 -- .. and a rebuilt sine and the difference the next rebuilt one, in a list l that is known to hold the differences
-pub next-sum : {l : List ℕ} → l ≡ differences_of sines → (k : ℕ) → rebuilt_of k + get_or l k 0 ≡ rebuilt_of (k + 1)
+next-sum : {l : List ℕ} → l ≡ differences_of sines → (k : ℕ) → rebuilt_of k + get_or l k 0 ≡ rebuilt_of (k + 1)
 unfolding rebuilt_of
 next-sum e k = rw (e, add-one) (sym (sum-next (differences_of sines) k))
 
@@ -54,6 +55,10 @@ rebuilt = record {
   same = same;
 }
 
+-- .. also in a list of the first k of them
+pub next-part : {l : List ℕ} (k i d : ℕ) → l ≡ take k (differences_of sines) → i < k → d ≡ get_or l i 0 → rebuilt_of i + d ≡ rebuilt_of (i + 1)
+next-part k i d e h at = rw (at, e, get_or-take k (differences_of sines) i 0 h) (next-sum refl i)
+
 -- no sum on the way is above what two entries may have together
-pub next_small : {l : List ℕ} → l ≡ differences_of sines → (k : ℕ) → k < 360 → rebuilt_of k + get_or l k 0 ≤ 23171
-next_small e k h = omega (arith, next-sum e k, same (k + 1) (omega arith), (parts (k + 1) (omega arith)).sum)
+pub rebuilt-small : (k : ℕ) → k ≤ 360 → rebuilt_of k ≤ 23171
+rebuilt-small k h = omega (arith, same k h, (parts k h).sum)

@@ -373,13 +373,9 @@ pub fn sine(k: usize) -> u32
     requires { k ≤ 360 }
     ensures { result ≡ sine_of k }
 {
-    // A constant is copied wherever it is named: here once, and not in each round.
-    let differences = DIFFERENCES;
-    let mut s = 0;
-    let mut i = 0;
-    while i < k {
-        s += differences[i] as u32;
-        i += 1;
+    let mut sum = 0;
+    for difference in &DIFFERENCES[..k] {
+        sum += u32::from(*difference);
     }
-    s
+    sum
 }

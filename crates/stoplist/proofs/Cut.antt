@@ -23,7 +23,7 @@ use Rattle.tokens.specs.declared.Unit.{Unit}
 use Rattle.tokens.specs.declared.Unit.TheVariants as U
 use Rattle.tokens.proofs.Cut.{number_cut, length_cut, percentage-cut, length-kept, percentage-kept}
 use Rattle.stoplist.specs.Stops.{stop, as_position, stop_position_of, stop_of, stops_of, two_stops_of}
-use Rattle.text.proofs.Whole.{map-gap, whole-map}
+use Rattle.text.proofs.WholeTexts.{map-gap, whole-map}
 
 abbrev pub cut_position : Position → Position
 cut_position P.Auto = P.Auto

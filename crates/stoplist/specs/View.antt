@@ -1,27 +1,14 @@
--- What the answers of the code mean: each case of a stop's as a reading of the text, and what the array of a list holds of the stops read.
+-- What the array of a list holds of the stops read, and the items of a text as the code takes them.
 -- Assumes nothing.
-use Rattle.std.specs.Prelude.{◌≡◌, ℕ, ◌+◌, ◌-◌, ◌≤◌, min, Bool, true, false, cond, not, ◌||◌, List, [], ◌++◌, leb, ltb, length, take, drop, set, replicate}
-use Rattle.text.specs.Text.{is, past, run, Read, got, refused}
-use Rattle.gradient.specs.declared.Position.{Position}
+use denote.Bor.{Bor}
+use Rattle.std.specs.Prelude.{ℕ, ◌+◌, ◌-◌, min, Bool, false, cond, not, ◌||◌, List, [], ◌++◌, ltb, length, take, set, replicate, Option, Some, None}
+use Rattle.text.specs.Text.{is, Read, got, refused}
 use Rattle.gradient.specs.declared.Stop.{Stop}
 use Rattle.gradient.specs.Lists.{all}
 use Rattle.gradient.specs.Blank.{blank_stop}
 use Rattle.gradient.specs.Range.{stop_in}
-use Rattle.stoplist.specs.declared.PositionRead.{PositionRead}
-use Rattle.stoplist.specs.declared.PositionRead.TheVariants as position
-use Rattle.stoplist.specs.declared.StopRead.{StopRead}
-use Rattle.stoplist.specs.declared.StopRead.TheVariants as stop
 use Rattle.stoplist.specs.declared.StopList.{StopList}
-use Rattle.stoplist.specs.declared.Listing.{Listing}
 use Rattle.stoplist.specs.Stops.{items_of}
-
-abbrev pub view_position : List ℕ → PositionRead → Read Position
-view_position s (position.Got p c) = got p (drop c.at s)
-view_position s position.Refused = refused
-
-abbrev pub view_stop : List ℕ → StopRead → Read Stop
-view_stop s (stop.Got a c) = got a (drop c.at s)
-view_stop s stop.Refused = refused
 
 -- up to 16 stops in the 16 places, the places after them blank
 abbrev pub places : List Stop → List Stop
@@ -42,23 +29,14 @@ added t s = record {
   wide = t.wide || not (stop_in s);
 }
 
-abbrev pub no_listing : Listing
-no_listing = record { found = false; list = blank_list }
+abbrev pub list_in : Read (List Stop) → Option StopList
+list_in (got ss l) = Some (list_of ss)
+list_in refused = None
 
-abbrev pub listing_of : Read (List Stop) → Listing
-listing_of (got ss l) = record { found = true; list = list_of ss }
-listing_of refused = no_listing
-
--- the items of s from a place on; past the end there are none
-abbrev pub items_from : List ℕ → ℕ → List (List ℕ)
-items_from s at = cond (leb at (length s)) (items_of (drop at s)) []
-
--- the first comma of s at or after a place, or the end
+-- a byte that is no comma, and the items after a comma, if there is one
 unfoldable pub not_comma : ℕ → Bool
 not_comma b = not (is "," b)
 
-pub record CommaAt (s : List ℕ) (at r : ℕ) : Type 0 where
-  pub order : at ≤ r
-  pub within : r ≤ length s
-  pub item : take (r - at) (drop at s) ≡ run not_comma (drop at s)
-  pub rest : drop r s ≡ past not_comma (drop at s)
+abbrev pub items_in : Option (Bor (List ℕ)) → List (List ℕ)
+items_in (Some rest) = items_of rest.now
+items_in None = []

@@ -1,107 +1,55 @@
 // Color stops of the text, and lists of them.
 #![tactic(auto)]
 
-ghost use Rattle.std.specs.Prelude.{◌≡◌, ◌+◌, ◌≤◌, cond, not, ◌||◌, ltb, length, drop};
-ghost use Rattle.text.specs.Text.{after_gap, whole_of};
-ghost use Rattle.gradient.specs.Range.{stop_in};
+ghost use Rattle.std.specs.Prelude.{◌≡◌, ◌∷◌};
+ghost use Rattle.text.specs.Text.{whole_of};
+ghost use Rattle.text.specs.View.{view, view_whole};
 ghost use Rattle.tokens.specs.Cut.{cut};
-ghost use Rattle.stoplist.specs.Stops.{stop_position_of, stop_of, two_stops_of};
-ghost use Rattle.stoplist.specs.View.{view_position, view_stop, blank_list, added, no_listing, listing_of, items_from, CommaAt};
+ghost use Rattle.stoplist.specs.Stops.{stop_position_of, stop_of, items_of, two_stops_of};
+ghost use Rattle.stoplist.specs.View.{blank_list, added, list_in, items_in};
 
 use gradient::{Position, Stop};
-use text::{Cursor, Match};
-use tokens::{ColorRead, NumberRead, Unit};
-
-#[derive(Clone, Copy)]
-pub enum PositionRead {
-    Got(Position, Cursor),
-    Refused,
-}
-
-#[derive(Clone, Copy)]
-pub enum StopRead {
-    Got(Stop, Cursor),
-    Refused,
-}
+use tokens::Unit;
 
 // The first 16 stops of a list, how many it has (17 where it has more than 16), and whether a number of it is out of its range.
-#[derive(Clone, Copy)]
+// Kept: the count beside the array, since memory is fixed; and the note of a range, since a text that is no gradient is refused before one whose
+// number is out of its range, which the list alone no longer tells past its sixteenth stop.
+#[derive(Clone, Copy, Debug, PartialEq, Eq)]
 pub struct StopList {
     pub stops: [Stop; 16],
     pub count: u32,
     pub wide: bool,
 }
 
-// A list of two stops or more, or none where `found` is false. (An enum cannot hold the array.)
-#[derive(Clone, Copy)]
-pub struct Listing {
-    pub found: bool,
-    pub list: StopList,
-}
-
 // ---- one stop
 
-fn read_position(s: &[u8], c: Cursor) -> PositionRead
-    ensures { view_position s.now result ≡ stop_position_of cut (drop c.at s.now) }
+#[tactic(auto, unfolding(crate::specs::Stops::stop_position_of))]
+fn read_position(s: &[u8]) -> Option<(Position, &[u8])>
+    ensures { view result ≡ stop_position_of cut s.now }
 {
-    let NumberRead::Got(n, e) = tokens::read_number(s, c) else {
-        return PositionRead::Refused;
-    };
-    let u = n.unit;
-    match u {
-        Unit::Length => PositionRead::Got(Position::Length(n.value), e),
-        Unit::Percentage => PositionRead::Got(Position::Percentage(n.value), e),
-        Unit::Angle => PositionRead::Refused,
+    let (n, rest) = tokens::read_number(s)?;
+    match n.unit {
+        Unit::Length => Some((Position::Length(n.value), rest)),
+        Unit::Percentage => Some((Position::Percentage(n.value), rest)),
+        Unit::Angle => None,
     }
 }
 
-// White space and a position, after a color.
-fn second_position(s: &[u8], c: Cursor) -> PositionRead
-    ensures { view_position s.now result ≡ after_gap (stop_position_of cut) (drop c.at s.now) }
+#[tactic(auto, unfolding(crate::specs::Stops::stop_of))]
+fn read_stop(s: &[u8]) -> Option<(Stop, &[u8])>
+    ensures { view result ≡ stop_of cut s.now }
 {
-    let Match::Past(k) = text::gap(s, c) else {
-        return PositionRead::Refused;
-    };
-    read_position(s, k)
+    let (color, rest) = tokens::read_color(s)?;
+    let position = text::gap(rest).and_then(read_position);
+    let (position, rest) = position.unwrap_or((Position::Auto, rest));
+    Some((Stop { color, position }, rest))
 }
 
-fn read_stop(s: &[u8], c: Cursor) -> StopRead
-    ensures { view_stop s.now result ≡ stop_of cut (drop c.at s.now) }
+// White space may stand around a stop, and nothing else.
+fn whole_stop(item: &[u8]) -> Option<Stop>
+    ensures { view_whole result ≡ whole_of (stop_of cut) item.now }
 {
-    let ColorRead::Got(v, k) = tokens::read_color(s, c) else {
-        return StopRead::Refused;
-    };
-    if let PositionRead::Got(p, e) = second_position(s, k) {
-        return StopRead::Got(
-            Stop {
-                color: v,
-                position: p,
-            },
-            e,
-        );
-    }
-    StopRead::Got(
-        Stop {
-            color: v,
-            position: Position::Auto,
-        },
-        k,
-    )
-}
-
-// ---- whole items: white space may stand around what is read, and nothing else
-
-fn whole_stop(item: &[u8]) -> StopRead
-    ensures { view_stop item.now result ≡ whole_of (stop_of cut) item.now }
-{
-    let StopRead::Got(stop, e) = read_stop(item, text::skip_space(item, Cursor { at: 0 })) else {
-        return StopRead::Refused;
-    };
-    let k = text::skip_space(item, e);
-    if !text::is_end(item, k) {
-        return StopRead::Refused;
-    }
-    StopRead::Got(stop, k)
+    text::whole(item, read_stop)
 }
 
 // ---- lists
@@ -109,103 +57,55 @@ fn whole_stop(item: &[u8]) -> StopRead
 pub fn blank_list() -> StopList
     ensures { result ≡ blank_list }
 {
-    let stops = [gradient::blank_stop(); 16];
     StopList {
-        stops: stops,
+        stops: [gradient::blank_stop(); 16],
         count: 0,
         wide: false,
     }
 }
 
-fn no_listing() -> Listing
-    ensures { result ≡ no_listing }
-{
-    let list = blank_list();
-    Listing {
-        found: false,
-        list: list,
+impl StopList {
+    // One stop more. Past the sixteenth only the count and the range are noted.
+    #[tactic(auto, unfolding(crate::specs::View::added))]
+    fn add(&mut self, stop: Stop)
+        ensures { self.new ≡ added self.old stop }
+    {
+        if self.count < 16 {
+            self.stops[self.count as usize] = stop;
+        }
+        self.count = self.count.saturating_add(1).min(17);
+        self.wide = self.wide || !gradient::position_in(stop.position);
     }
 }
 
-// One stop more; past the sixteenth, 17.
-fn one_more(count: u32) -> u32
-    ensures { result ≡ cond (ltb count 16) (count + 1) 17 }
+// The first item of a text, and what follows its comma, if it has one.
+pub fn first_item(s: &[u8]) -> (&[u8], Option<&[u8]>)
+    ensures { items_of s.now ≡ result.0.now ∷ items_in result.1 }
 {
-    if count < 16 { count + 1 } else { 17 }
-}
-
-// Whether a number is out of its range: of the stops before, or of one more.
-fn still_wide(wide: bool, s: Stop) -> bool
-    ensures { result ≡ (wide || not (stop_in s)) }
-{
-    let p = s.position;
-    wide || !gradient::position_in(p)
-}
-
-// The first comma at or after a place, or the end, looked for byte by byte.
-fn comma_from(s: &[u8], at: usize) -> usize
-    requires { at ≤ length s.now }
-    ensures { CommaAt s.now at result }
-{
-    let mut i = at;
-    while i < s.len() {
-        if s[i] == b',' {
-            return i;
-        }
-        i += 1;
+    let (item, rest) = text::run(s, |b| b != b',');
+    match rest {
+        [_, rest @ ..] => (item, Some(rest)),
+        [] => (item, None),
     }
-    i
 }
 
-// The same, four bytes at a time as long as there are so many.
-pub fn find_comma(s: &[u8], at: usize) -> usize
-    requires { at ≤ length s.now }
-    ensures { CommaAt s.now at result }
-{
-    let mut i = at;
-    while 4 <= s.len() - i {
-        if s[i] == b',' {
-            return i;
-        }
-        if s[i + 1] == b',' {
-            return i + 1;
-        }
-        if s[i + 2] == b',' {
-            return i + 2;
-        }
-        if s[i + 3] == b',' {
-            return i + 3;
-        }
-        i += 4;
-    }
-    comma_from(s, i)
-}
-
-// The items from a place on as stops. Past the sixteenth only the count and the range are noted.
-pub fn read_stops(s: &[u8], from: usize) -> Listing
-    ensures { result ≡ listing_of (two_stops_of cut (items_from s.now from)) }
+// The items of a text as stops, two or more.
+pub fn read_stops(s: &[u8]) -> Option<StopList>
+    ensures { result ≡ list_in (two_stops_of cut (items_of s.now)) }
 {
     let mut list = blank_list();
-    let mut at = from;
-    while at <= s.len() {
-        let end = find_comma(s, at);
-        let StopRead::Got(stop, _) = whole_stop(&s[at..end]) else {
-            return no_listing();
+    let mut left = Some(s);
+    while let Some(text) = left {
+        let (item, rest) = first_item(text);
+        // Kept: `let .. else`, the form that document 01 names for this place.
+        let Some(stop) = whole_stop(item) else {
+            return None;
         };
-        let n = list.count;
-        if n < 16 {
-            let i = n as usize;
-            list.stops[i] = stop;
-        }
-        list.count = one_more(n);
-        list.wide = still_wide(list.wide, stop);
-        at = end + 1;
+        list.add(stop);
+        left = rest;
     }
     if list.count < 2 {
-        return no_listing();
+        return None;
     }
-    Listing {
-        found: true,
-        list: list,
-    }
+    Some(list)
 }

@@ -1,47 +1,43 @@
--- Whether no stop is below an earlier one: as a loop that goes through the list asks it, and for any two stops.
+-- Whether no stop is below an earlier one: asked of each stop and the next, and for any two stops.
 -- Assumes nothing.
-use mathlib.Core.Path.{◌≡◌, refl, sym, ◌∙◌}
-use mathlib.Core.Bool.{true, false, and-eq-true_iff}
+use mathlib.Core.Path.{◌≡◌, refl, sym}
+use mathlib.Core.Bool.{Bool, true, false, and-false, and-eq-true_iff}
 use mathlib.Core.List.{List, [], ◌∷◌}
 use Prim.Native.Nat.{ℕ, zero, suc, ◌+◌, ◌≤◌, ◌<◌}
-use native.Mathlib.Numerals.{add-one}
+use native.Mathlib.Numerals.{unary_clauses}
 use native.Mathlib.Omega.{arith}
 use lib.IntN.{ℤ}
-use lib.ListN.{length, get_or, drop, drop_of_length-le}
-use lib.Seq.{drop-cons}
-use lib.Signed.{lt_z, le_z}
-use borrow.Author.Tests.{not-true, not-false}
+use lib.ListN.{length, get_or}
+use lib.Signed.{le_z}
+use Rattle.std.specs.List.{AllAdjacentBelow, IsAllAdjacentAnswer}
 use Rattle.stops.specs.declared.PlacedStop.{PlacedStop}
 use Rattle.stops.specs.Blank.{blank_placed}
 use Rattle.stops.specs.Check.{rising_from, rising}
-use Rattle.stops.proofs.Order.{le_z-refl, le_z-trans, lt_z-not}
+use Rattle.stops.proofs.Order.{le_z-refl, le_z-trans}
 
 abbrev pub place_at : List PlacedStop → ℕ → ℤ
 place_at xs i = (get_or xs i blank_placed).position
 
--- a loop at index i, past a stop at z: it starts, it ends, the next stop, at y, is below z, or it is passed
-module _ (xs : List PlacedStop) where
-  pub rising-start : (z : ℤ) → (0 < length xs → z ≡ place_at xs 0) → rising_from z (drop 1 xs) ≡ rising xs
-  unfolding rising_from
-  rising-start z f = go xs f
-    where
-      go : (xs : List PlacedStop) → (0 < length xs → z ≡ place_at xs 0) → rising_from z (drop 1 xs) ≡ rising xs
-      go [] f = refl
-      go (x ∷ xs) f = rw (f (omega arith))
+-- no stop is below the one just before it
+abbrev pub not-below : PlacedStop → PlacedStop → Bool
+not-below x y = le_z x.position y.position
 
-  module _ (z : ℤ) (i : ℕ) where
-    pub rising-end : length xs ≤ i → true ≡ rising_from z (drop i xs)
-    unfolding rising_from
-    rising-end h = rw (drop_of_length-le xs h)
+neighbours-rise : (xs : List PlacedStop) → AllAdjacentBelow (λ x y. true ≡ not-below x y) xs (length xs) → true ≡ rising xs
+unfolding rising_from
+neighbours-rise [] f = refl
+neighbours-rise (x ∷ []) f = refl
+neighbours-rise (x ∷ y ∷ xs) f = rw (← f 0 x (omega arith)) (neighbours-rise (y ∷ xs) (λ k d h. simp unary_clauses (simp unary_clauses at f (suc k) d (omega arith))))
 
-    module _ (y : ℤ) (e : y ≡ place_at xs i) (h : i < length xs) where
-      pub rising-stop : lt_z y z ≡ true → false ≡ rising_from z (drop i xs)
-      unfolding rising_from
-      rising-stop t = rw (drop-cons xs i blank_placed h, ← e, not-true (le_z z y) (sym (lt_z-not y z) ∙ t))
+neighbours-fall : (xs : List PlacedStop) (k : ℕ) → k + 1 < length xs → false ≡ not-below (get_or xs k blank_placed) (get_or xs (k + 1) blank_placed) → false ≡ rising xs
+unfolding rising_from
+neighbours-fall [] k h f = absurd (omega arith)
+neighbours-fall (x ∷ []) k h f = absurd (omega arith)
+neighbours-fall (x ∷ y ∷ xs) zero h f = rw (← f)
+neighbours-fall (x ∷ y ∷ xs) (suc k) h f = rw (← neighbours-fall (y ∷ xs) k (omega arith) (simp unary_clauses (simp unary_clauses at f))) (sym (and-false (not-below x y)))
 
-      pub rising-go : lt_z y z ≡ false → rising_from y (drop (i + 1) xs) ≡ rising_from z (drop i xs)
-      unfolding rising_from
-      rising-go t = rw (add-one, drop-cons xs i blank_placed h, ← e, not-false (le_z z y) (sym (lt_z-not y z) ∙ t))
+pub rising-neighbours : (xs : List PlacedStop) (r : Bool) → IsAllAdjacentAnswer (λ x y b. b ≡ not-below x y) xs r → r ≡ rising xs
+rising-neighbours xs true f = neighbours-rise xs f
+rising-neighbours xs false f = neighbours-fall xs f.0 f.1 (f.2 blank_placed)
 
 -- no stop is below an earlier one, whichever two are taken
 from_at : (z : ℤ) (xs : List PlacedStop) → rising_from z xs ≡ true → (j : ℕ) → j < length xs → le_z z (place_at xs j) ≡ true

@@ -2,25 +2,36 @@
 #![tactic(auto)]
 
 ghost use Rattle.std.specs.Prelude.{◌≡◌};
+ghost use Rattle.replies.specs.Refused.{reply_of};
 ghost use Rattle.stops.specs.Blank.{blank_placed, no_stops, is_blank_placed};
 ghost use Rattle.stops.specs.Check.{placed_of, rising, blank_past_placed, place_in, places_in, check_placed_of};
 
 use gradient::Color;
 use numbers::magnitude;
-use replies::{DONE, MALFORMED, OUT_OF_RANGE, TOO_MANY_STOPS};
+use replies::Refusal;
 
 // A stop with its place on the gradient line, in units of 1/64 px.
-#[derive(Clone, Copy)]
+#[derive(Clone, Copy, Debug, PartialEq, Eq)]
 pub struct PlacedStop {
     pub color: Color,
     pub position: i32,
 }
 
 // The stops are the first `count` places of the array, and the places after them are blank.
-#[derive(Clone, Copy)]
+// Kept: the count beside the array, for the same reasons as in a gradient: `check_placed` answers about other values, too.
+#[derive(Clone, Copy, Debug, PartialEq, Eq)]
 pub struct PlacedStops {
     pub count: u32,
     pub stops: [PlacedStop; 16],
+}
+
+impl PlacedStops {
+    // The stops in their order; the first 16 where the count is above 16.
+    pub fn stops(&self) -> &[PlacedStop]
+        ensures { result.now ≡ placed_of self.now }
+    {
+        &self.stops[..(self.count as usize).min(16)]
+    }
 }
 
 // What stands in an unused place.
@@ -49,10 +60,11 @@ pub fn no_stops() -> PlacedStops
     }
 }
 
+#[tactic(auto, unfolding(crate::specs::Blank::is_blank_placed))]
 fn is_blank_placed(s: PlacedStop) -> bool
     ensures { result ≡ is_blank_placed s }
 {
-    gradient::is_clear(s.color) && magnitude(s.position) == 0
+    s == blank_placed()
 }
 
 fn place_in(s: PlacedStop) -> bool
@@ -65,62 +77,39 @@ fn place_in(s: PlacedStop) -> bool
 fn are_rising(p: PlacedStops) -> bool
     ensures { result ≡ rising (placed_of p) }
 {
-    let n = p.count as usize;
-    let first = p.stops[0];
-    let mut last = first.position;
-    let mut i: usize = 1;
-    while i < 16 && i < n {
-        let s = p.stops[i];
-        let z = s.position;
-        if z < last {
-            return false;
-        }
-        last = z;
-        i += 1;
-    }
-    true
+    p.stops().is_sorted_by(|a, b| a.position <= b.position)
 }
 
 // Whether every place after the stops is blank.
 fn blank_past_placed(p: PlacedStops) -> bool
     ensures { result ≡ blank_past_placed p }
 {
-    let mut i = p.count as usize;
-    while i < 16 {
-        let s = p.stops[i];
-        if !is_blank_placed(s) {
-            return false;
-        }
-        i += 1;
-    }
-    true
+    p.stops
+        .iter()
+        .skip(p.count as usize)
+        .all(|s| is_blank_placed(*s))
 }
 
 // Whether the position of every stop is in its range.
 fn places_in(p: PlacedStops) -> bool
     ensures { result ≡ places_in p }
 {
-    let n = p.count as usize;
-    let mut i: usize = 0;
-    while i < 16 && i < n {
-        let s = p.stops[i];
-        if !place_in(s) {
-            return false;
-        }
-        i += 1;
-    }
-    true
+    p.stops().iter().all(|s| place_in(*s))
 }
 
-// The reply to placed stops that are handed in.
-pub fn check_placed(p: PlacedStops) -> u32
-    ensures { result ≡ check_placed_of p }
+// Judges placed stops that are handed in.
+#[tactic(auto, unfolding(crate::specs::Check::check_placed_of))]
+pub fn check_placed(p: PlacedStops) -> Result<(), Refusal>
+    ensures { reply_of result ≡ check_placed_of p }
 {
     if p.count < 2 || !are_rising(p) || !blank_past_placed(p) {
-        return MALFORMED;
+        return Err(Refusal::Malformed);
     }
     if !places_in(p) {
-        return OUT_OF_RANGE;
+        return Err(Refusal::OutOfRange);
     }
-    if p.count <= 16 { DONE } else { TOO_MANY_STOPS }
+    if 16 < p.count {
+        return Err(Refusal::TooManyStops);
+    }
+    Ok(())
 }

@@ -5,21 +5,15 @@ ghost use Rattle.std.specs.Prelude.{◌≡◌, ◌+◌, ◌≤◌, ◌<◌, leng
 ghost use Rattle.picture.specs.Picture.{padded, patched};
 ghost use Rattle.words.specs.Word.{equal};
 ghost use Rattle.stopslayout.specs.Words.{stop_bytes, placed_layout_of};
-ghost use Rattle.stopslayout.specs.Taken.{color_from, placed_stop_at, placed_at, taken_stops_of};
+ghost use Rattle.stopslayout.specs.Taken.{color_from, placed_stop_at, placed_at, taken_stops, taken_stops_of};
 
 use gradient::Color;
-use replies::{DONE, MALFORMED};
+use replies::Refusal;
+use std::array;
 use stops::{PlacedStop, PlacedStops};
 
 // The bytes of placed stops.
 pub const SIZE: usize = 132;
-
-// Placed stops beside the reply to their layout; none after a refusal.
-#[derive(Clone, Copy)]
-pub struct TakenStops {
-    pub reply: u32,
-    pub stops: PlacedStops,
-}
 
 // Stores a place of the layout from `at` on.
 fn put_stop(out: &mut [u8], at: usize, s: PlacedStop)
@@ -37,11 +31,8 @@ pub fn write(p: PlacedStops, out: &mut [u8])
     ensures { out.new ≡ padded (length out.old) (placed_layout_of p) }
 {
     picture::put(out, 0, (p.count % 256) as u8, 0, 0, 0);
-    let mut place: usize = 0;
-    while place < 16 {
-        let s = p.stops[place];
-        put_stop(out, 4 + 8 * place, s);
-        place += 1;
+    for (place, s) in p.stops.iter().enumerate() {
+        put_stop(out, 4 + 8 * place, *s);
     }
     picture::clear_from(out, SIZE);
 }
@@ -72,15 +63,9 @@ fn stop_at(s: &[u8], i: usize) -> PlacedStop
 fn placed_at(s: &[u8]) -> PlacedStops
     ensures { result ≡ placed_at s.now }
 {
-    let mut stops = [stops::blank_placed(); 16];
-    let mut i: usize = 0;
-    while i < 16 {
-        stops[i] = stop_at(s, i);
-        i += 1;
-    }
     PlacedStops {
-        count: words::byte_at(s, 0) as u32,
-        stops: stops,
+        count: u32::from(words::byte_at(s, 0)),
+        stops: array::from_fn(|i| stop_at(s, i)),
     }
 }
 
@@ -93,26 +78,14 @@ fn is_layout(s: &[u8], p: PlacedStops) -> bool
     words::same(s, &own)
 }
 
-// Takes placed stops from their layout, or answers what is wrong with the slice.
-pub fn take(s: &[u8]) -> TakenStops
-    ensures { result ≡ taken_stops_of s.now }
+// Takes placed stops from their layout: a slice is read whatever stands in it, and compared with the layout of what it reads as.
+pub fn take(s: &[u8]) -> Result<PlacedStops, Refusal>
+    ensures { taken_stops result ≡ taken_stops_of s.now }
 {
     let p = placed_at(s);
     if !is_layout(s, p) {
-        return TakenStops {
-            reply: MALFORMED,
-            stops: stops::no_stops(),
-        };
+        return Err(Refusal::Malformed);
     }
-    let reply = stops::check_placed(p);
-    if reply == DONE {
-        return TakenStops {
-            reply: DONE,
-            stops: p,
-        };
-    }
-    TakenStops {
-        reply: reply,
-        stops: stops::no_stops(),
-    }
+    stops::check_placed(p)?;
+    Ok(p)
 }

@@ -2,7 +2,7 @@
 // earlier row moved sideways is copied from it.
 #![tactic(auto)]
 
-ghost use Rattle.std.specs.Prelude.{◌≡◌, true, false, ◌+◌, ◌-◌, ◌*◌, ◌≤◌, ◌<◌, length};
+ghost use Rattle.std.specs.Prelude.{◌≡◌, true, false, ◌+◌, ◌-◌, ◌*◌, ◌≤◌, ◌<◌, length, IfSome};
 ghost use Rattle.std.specs.Bool.{beq};
 ghost use Rattle.line.specs.Box.{Box};
 ghost use Rattle.line.specs.Represented.{Bounded};
@@ -39,18 +39,15 @@ fn draw_columns(
     requires { Ramp ramp.now × Box z.w z.h × Steady steps v × (z.a ≤ z.b) × (z.b ≤ z.h) × (at + 4 * z.w * (z.b - z.a) ≤ length buf.old) × (i + n ≤ z.w) }
     ensures { Continued (ramp_pixel ramp.now (Line.Straight v) z.w z.h) z.w z.a z.b i (i + n) at buf.old buf.new }
 {
-    let m = 4 * z.w;
-    let mut j = z.a;
-    let mut o = at;
-    while j < z.b {
+    for j in z.a..z.b {
         let r = fixed::row_line(steps, v, z.w, z.h, j);
+        let o = at + 4 * z.w * (j - z.a);
         rowparts::draw_part(ramp, r, v, z, j, i, n, o + 4 * i, buf);
-        o += m;
-        j += 1;
     }
 }
 
 // Draws the columns from `from` up to `end` of a strip whose rows start at `at`, a tile's columns at a time.
+// Kept: a `while`, as the last tile may be narrower: with `step_by` the counter would go past the end, and its invariant be no plainer.
 fn draw_band(
     ramp: &[u32],
     steps: Steps,
@@ -66,13 +63,14 @@ fn draw_band(
 {
     let mut i = from;
     while i < end {
-        let n = picture::at_most(TILE_COLUMNS, end - i);
+        let n = TILE_COLUMNS.min(end - i);
         draw_columns(ramp, steps, v, z, i, n, at, buf);
         i += n;
     }
 }
 
 // The same, a tile's rows at a time.
+// Kept: a `while`, as the last tile may be lower, as with the columns.
 pub fn draw_tiles(
     ramp: &[u32],
     steps: Steps,
@@ -89,7 +87,7 @@ pub fn draw_tiles(
     let mut j = z.a;
     let mut o = at;
     while j < z.b {
-        let n = picture::at_most(TILE_ROWS, z.b - j);
+        let n = TILE_ROWS.min(z.b - j);
         let band = Strip {
             w: z.w,
             h: z.h,
@@ -107,14 +105,9 @@ fn draw_rows(ramp: &[u32], steps: Steps, v: SignedVector, z: Strip, buf: &mut [u
     requires { Ramp ramp.now × Box z.w z.h × Steady steps v × Rows z (length buf.old) }
     ensures { buf.new ≡ patched buf.old 0 (strip_of ramp.now (Line.Straight v) z) }
 {
-    let m = 4 * z.w;
-    let mut j = z.a;
-    let mut o = 0;
-    while j < z.b {
+    for j in z.a..z.b {
         let r = fixed::row_line(steps, v, z.w, z.h, j);
-        rowparts::draw_by_stretches(ramp, r, v, z, j, 0, z.w, o, buf);
-        o += m;
-        j += 1;
+        rowparts::draw_by_stretches(ramp, r, v, z, j, 0, z.w, 4 * z.w * (j - z.a), buf);
     }
 }
 
@@ -133,42 +126,22 @@ fn draw_new(ramp: &[u32], steps: Steps, v: SignedVector, z: Strip, buf: &mut [u8
 // ---- rows that are earlier rows moved sideways
 
 // Going down so many rows is as far along the line as going across so many columns.
-#[derive(Clone, Copy)]
+#[derive(Clone, Copy, Debug, PartialEq, Eq)]
 pub struct Shift {
     pub rows: usize,
     pub columns: usize,
 }
 
-// The greatest common divisor, by Euclid's algorithm. Nothing is proved of it: a shift is tested before it is used.
-fn common(x: u32, y: u32) -> u32 {
-    let mut a = x;
-    let mut b = y;
-    while b > 0 {
-        let r = a % b;
-        a = b;
-        b = r;
-    }
-    a
-}
-
-// A shift that copies nothing.
-pub fn no_shift() -> Shift {
-    Shift {
-        rows: 0,
-        columns: 0,
-    }
-}
-
-// The least shift along a vector.
-pub fn shift_of(v: SignedVector) -> Shift {
-    let g = common(v.x, v.y);
+// The least shift along a vector. Nothing is proved of it: a shift is tested before it is used.
+pub fn shift_of(v: SignedVector) -> Option<Shift> {
+    let g = numbers::common(v.x, v.y);
     if g == 0 {
-        return no_shift();
+        return None;
     }
-    Shift {
+    Some(Shift {
         rows: (v.x / g) as usize,
         columns: (v.y / g) as usize,
-    }
+    })
 }
 
 // How many of the pixels in n rows of w are not copied.
@@ -179,24 +152,23 @@ fn new_pixels(s: Shift, w: usize, n: usize) -> usize
     s.rows * w + (n - s.rows) * s.columns
 }
 
-// Whether a shift is one along v that leaves at most half of the pixels in n rows of w to draw.
-fn is_worthwhile(v: SignedVector, s: Shift, w: usize, n: usize) -> bool
+// The shift, if it is one along v that leaves at most half of the pixels in n rows of w to draw.
+fn worthwhile(shift: Option<Shift>, v: SignedVector, w: usize, n: usize) -> Option<Shift>
     requires { Bounded v × (w ≤ 2048) × (n ≤ 2048) }
-    ensures { result ≡ true → Copies v s w n }
+    ensures { IfSome result (λ s. Copies v s w n) }
 {
-    if s.rows == 0 {
-        return false;
-    }
-    if s.rows >= n {
-        return false;
-    }
-    if s.columns > w {
-        return false;
+    let s = shift?;
+    if s.rows == 0 || s.rows >= n || s.columns > w {
+        return None;
     }
     if (v.x as usize) * s.columns != (v.y as usize) * s.rows {
-        return false;
+        return None;
     }
-    2 * new_pixels(s, w, n) <= n * w
+    if 2 * new_pixels(s, w, n) <= n * w {
+        Some(s)
+    } else {
+        None
+    }
 }
 
 // Draws row j at `at`: the earlier row, which is at `from`, without its first pixels, and then new ones.
@@ -268,14 +240,9 @@ fn draw_shifted(ramp: &[u32], v: SignedVector, steps: Steps, s: Shift, z: Strip,
     ensures { buf.new ≡ patched buf.old 0 (strip_of ramp.now (Line.Straight v) z) }
 {
     let n = 4 * z.w;
-    let mut j = z.a + s.rows;
-    let mut from = 0;
-    let mut o = n * s.rows;
-    while j < z.b {
-        draw_next(ramp, v, steps, s, z, j, from, o, buf);
-        from += n;
-        o += n;
-        j += 1;
+    for j in z.a + s.rows..z.b {
+        let i = j - z.a;
+        draw_next(ramp, v, steps, s, z, j, n * (i - s.rows), n * i, buf);
     }
 }
 
@@ -297,15 +264,14 @@ fn draw_with_copies(ramp: &[u32], steps: Steps, v: SignedVector, s: Shift, z: St
 // ---- strips
 
 // Draws a strip from the buffer's start, with copies where the shift is worthwhile. Any shift is right; the one of `shift_of` is fastest.
-pub fn draw(ramp: &[u32], v: SignedVector, s: Shift, z: Strip, buf: &mut [u8])
+pub fn draw(ramp: &[u32], v: SignedVector, shift: Option<Shift>, z: Strip, buf: &mut [u8])
     requires { Ramp ramp.now × Straight v z (length buf.old) }
     ensures { buf.new ≡ patched buf.old 0 (strip_of ramp.now (Line.Straight v) z) }
 {
     let steps = fixed::steps_of(v);
-    if is_worthwhile(v, s, z.w, z.b - z.a) {
-        draw_with_copies(ramp, steps, v, s, z, buf);
-    } else {
-        draw_new(ramp, steps, v, z, buf);
+    match worthwhile(shift, v, z.w, z.b - z.a) {
+        Some(s) => draw_with_copies(ramp, steps, v, s, z, buf),
+        None => draw_new(ramp, steps, v, z, buf),
     }
 }
 
@@ -333,15 +299,14 @@ pub fn last(v: SignedVector, z: Strip, from: usize, end: usize) -> u32
 }
 
 // How many entries a table should have where the locations take n: none where fewer pixels are to be drawn than `few`.
-pub fn entries(v: SignedVector, s: Shift, z: Strip, n: usize, few: usize) -> usize
+pub fn entries(v: SignedVector, shift: Option<Shift>, z: Strip, n: usize, few: usize) -> usize
     requires { Box z.w z.h × Bounded v × (z.a < z.b) × (z.b ≤ z.h) }
     ensures { result ≤ n }
 {
     let rows = z.b - z.a;
-    let pixels = if is_worthwhile(v, s, z.w, rows) {
-        new_pixels(s, z.w, rows)
-    } else {
-        z.w * rows
+    let pixels = match worthwhile(shift, v, z.w, rows) {
+        Some(s) => new_pixels(s, z.w, rows),
+        None => z.w * rows,
     };
     if pixels < few { 0 } else { n }
 }

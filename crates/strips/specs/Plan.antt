@@ -3,20 +3,16 @@
 use Rattle.std.specs.Prelude.{ℕ, ◌+◌, ◌≤◌}
 use Rattle.ramp.specs.Ramp.{head_size}
 use Rattle.strips.specs.declared.Plan.{Plan}
+use Rattle.strips.specs.declared.SlantedPlan.{SlantedPlan}
+use Rattle.strips.specs.declared.SlantedPlan.TheVariants as S
 
--- the most columns of a narrow strip
-abbrev pub narrow : ℕ
-narrow = 256
+-- the most columns of any strip
+abbrev pub wide : ℕ
+wide = 2048
 
--- the most entries of a tiny, of a small, of a middle-sized and of any table
-abbrev pub tiny_table : ℕ
-tiny_table = 6144
-
+-- the most entries of a small and of any table
 abbrev pub small_table : ℕ
 small_table = 16384
-
-abbrev pub medium_table : ℕ
-medium_table = 65536
 
 abbrev pub most_entries : ℕ
 most_entries = 185408
@@ -29,6 +25,17 @@ last_base = 33000000
 pub record Planned (p : Plan) (n : ℕ) : Type 0 where
   pub base : p.base ≤ last_base
   pub entries : p.entries ≤ n
+
+-- .. or for tables of sections, which are small
+abbrev pub SlantedPlanned : SlantedPlan → Type 0
+SlantedPlanned (S.Whole p) = Planned p most_entries
+SlantedPlanned (S.Sections n) = n ≤ small_table
+
+-- n words have room for a ramp with the planned table
+pub record HasRoom (p : Plan) (n : ℕ) : Type 0 where
+  pub base : p.base ≤ last_base
+  pub entries : head_size + p.entries ≤ n
+  pub most : n ≤ head_size + most_entries
 
 -- n words are room for a ramp whose table starts at `base`
 pub record Room (base n : ℕ) : Type 0 where

@@ -9,7 +9,7 @@ ghost use Rattle.picture.specs.Picture.{patched};
 ghost use Rattle.ramp.specs.Ramp.{head_size, color_in, Stops, Ramp};
 ghost use Rattle.rows.specs.Pixel.{Placed, Rows, Drawable, strip_of};
 ghost use Rattle.circle.specs.Circular.{Circular};
-ghost use Rattle.strips.specs.Plan.{narrow, tiny_table, small_table, medium_table, most_entries, last_base, Planned, Room};
+ghost use Rattle.strips.specs.Plan.{wide, small_table, most_entries, last_base, Planned, SlantedPlanned, HasRoom, Room};
 
 use line::{BiasedCenter, Line, SignedVector};
 use rows::Strip;
@@ -48,6 +48,9 @@ const SHORT: usize = 1024;
 // The most entries of any table: more than the diagonal of the largest box has units.
 const LARGE: usize = 185408;
 
+// The words of a ramp without a table.
+const BARE_RAMP: usize = ramp::HEAD;
+
 // The words of a ramp with a tiny table.
 const TINY_RAMP: usize = ramp::HEAD + TINY;
 
@@ -62,33 +65,20 @@ const LARGE_RAMP: usize = ramp::HEAD + LARGE;
 
 // ---- with a ramp that has a table
 
-fn narrow_columns() -> [u32; NARROW] {
-    [0u32; NARROW]
+fn zeros<const N: usize>() -> [u32; N]
+    ensures { length result ≡ N }
+{
+    [0u32; N]
 }
 
-fn wide_columns() -> [u32; WIDE] {
-    [0u32; WIDE]
-}
-
-// Draws a narrow strip around a circle's center.
-fn circle_narrow(ramp: &[u32], c: BiasedCenter, z: Strip, buf: &mut [u8])
-    requires { Ramp ramp.now × Circular c z (length buf.old) × (z.w ≤ narrow) }
+// Draws a strip around a circle's center, with lists for so many columns.
+fn circle_with<const COLUMNS: usize>(ramp: &[u32], c: BiasedCenter, z: Strip, buf: &mut [u8])
+    requires { Ramp ramp.now × Circular c z (length buf.old) × (z.w ≤ COLUMNS) × (COLUMNS ≤ wide) }
     ensures { buf.new ≡ patched buf.old 0 (strip_of ramp.now (Line.Circle c) z) }
 {
-    let mut low = narrow_columns();
-    let mut p = narrow_columns();
-    let mut q = narrow_columns();
-    circle::draw(ramp, &mut low, &mut p, &mut q, c, z, buf);
-}
-
-// Draws a strip of any width around a circle's center.
-fn circle_wide(ramp: &[u32], c: BiasedCenter, z: Strip, buf: &mut [u8])
-    requires { Ramp ramp.now × Circular c z (length buf.old) }
-    ensures { buf.new ≡ patched buf.old 0 (strip_of ramp.now (Line.Circle c) z) }
-{
-    let mut low = wide_columns();
-    let mut p = wide_columns();
-    let mut q = wide_columns();
+    let mut low = zeros::<COLUMNS>();
+    let mut p = zeros::<COLUMNS>();
+    let mut q = zeros::<COLUMNS>();
     circle::draw(ramp, &mut low, &mut p, &mut q, c, z, buf);
 }
 
@@ -97,13 +87,13 @@ fn draw_circle(ramp: &[u32], c: BiasedCenter, z: Strip, buf: &mut [u8])
     ensures { buf.new ≡ patched buf.old 0 (strip_of ramp.now (Line.Circle c) z) }
 {
     if z.w <= NARROW {
-        circle_narrow(ramp, c, z, buf);
+        circle_with::<NARROW>(ramp, c, z, buf);
     } else {
-        circle_wide(ramp, c, z, buf);
+        circle_with::<WIDE>(ramp, c, z, buf);
     }
 }
 
-fn draw_ready(ramp: &[u32], shift: Shift, l: Line, z: Strip, buf: &mut [u8])
+fn draw_ready(ramp: &[u32], shift: Option<Shift>, l: Line, z: Strip, buf: &mut [u8])
     requires { Ramp ramp.now × Placed l z.w z.h × Rows z (length buf.old) }
     ensures { buf.new ≡ patched buf.old 0 (strip_of ramp.now l z) }
 {
@@ -115,25 +105,48 @@ fn draw_ready(ramp: &[u32], shift: Shift, l: Line, z: Strip, buf: &mut [u8])
 
 // ---- with stops, and room for a table
 
-// The table that a strip is drawn with, and the shift that may copy its rows. A strip in sections has a table for each, of so many entries.
-#[derive(Clone, Copy)]
+// The table that a strip is drawn with, and the shift that may copy its rows.
+#[derive(Clone, Copy, Debug, PartialEq, Eq)]
 struct Plan {
     base: u32,
     entries: usize,
-    shift: Shift,
-    in_sections: bool,
+    shift: Option<Shift>,
 }
 
-// Makes a ramp with the planned table, in the room that is lent for it, and draws with it.
-fn draw_with(ramp: &mut [u32], p: Plan, stops: &[u32], l: Line, z: Strip, buf: &mut [u8])
-    requires { Drawable stops.now l z (length buf.old) × Room p.base (length ramp.old) }
+// Makes a ramp with the planned table, in a room of so many words, and draws with it. There is an instance for each size, and it stays apart: only it takes
+// the stack for its room. Inlined, the largest would be taken for every small picture, too.
+#[inline(never)]
+fn with_room<const WORDS: usize>(p: Plan, stops: &[u32], l: Line, z: Strip, buf: &mut [u8])
+    requires { Drawable stops.now l z (length buf.old) × HasRoom p WORDS }
     ensures { buf.new ≡ patched buf.old 0 (strip_of stops.now l z) }
 {
-    ramp::set_table(ramp, stops, p.base);
-    draw_ready(ramp, p.shift, l, z, buf);
+    let mut room = zeros::<WORDS>();
+    let lent = &mut room[..ramp::HEAD + p.entries];
+    ramp::set_table(lent, stops, p.base);
+    draw_ready(lent, p.shift, l, z, buf);
+}
+
+// With the smallest room that does: none for a table, or one of four sizes. Inlined, so that no frame of its own lies under the largest room.
+#[inline(always)]
+fn draw_planned(p: Plan, stops: &[u32], l: Line, z: Strip, buf: &mut [u8])
+    requires { Drawable stops.now l z (length buf.old) × Planned p most_entries }
+    ensures { buf.new ≡ patched buf.old 0 (strip_of stops.now l z) }
+{
+    if p.entries == 0 {
+        with_room::<BARE_RAMP>(p, stops, l, z, buf);
+    } else if p.entries <= TINY {
+        with_room::<TINY_RAMP>(p, stops, l, z, buf);
+    } else if p.entries <= SMALL {
+        with_room::<SMALL_RAMP>(p, stops, l, z, buf);
+    } else if p.entries <= MEDIUM {
+        with_room::<MEDIUM_RAMP>(p, stops, l, z, buf);
+    } else {
+        with_room::<LARGE_RAMP>(p, stops, l, z, buf);
+    }
 }
 
 // Draws a strip along a line in sections, each with a table of its own in the room that is lent.
+// Kept: a `while`, as the last section may be narrower: with `step_by` the counter would go past the end, and its invariant be no plainer.
 fn draw_sections(ramp: &mut [u32], stops: &[u32], v: SignedVector, z: Strip, buf: &mut [u8])
     requires { Drawable stops.now (Line.Straight v) z (length buf.old) × Room 0 (length ramp.old) }
     ensures { buf.new ≡ patched buf.old 0 (strip_of stops.now (Line.Straight v) z) }
@@ -141,46 +154,21 @@ fn draw_sections(ramp: &mut [u32], stops: &[u32], v: SignedVector, z: Strip, buf
     let steps = fixed::steps_of(v);
     let mut i = 0;
     while i < z.w {
-        let end = i + picture::at_most(SECTION, z.w - i);
+        let end = z.w.min(i + SECTION);
         ramp::set_table(ramp, stops, base_of(straight::first(v, z, i, end)));
         straight::draw_tiles(ramp, steps, v, z, i, end, 0, buf);
         i = end;
     }
 }
 
-// In sections where the plan says so.
-fn draw_in_room(ramp: &mut [u32], p: Plan, stops: &[u32], l: Line, z: Strip, buf: &mut [u8])
-    requires { Drawable stops.now l z (length buf.old) × Room p.base (length ramp.old) }
-    ensures { buf.new ≡ patched buf.old 0 (strip_of stops.now l z) }
+// The same with a room for tables of n entries, in a function of its own.
+#[inline(never)]
+fn draw_in_sections(n: usize, stops: &[u32], v: SignedVector, z: Strip, buf: &mut [u8])
+    requires { Drawable stops.now (Line.Straight v) z (length buf.old) × (n ≤ small_table) }
+    ensures { buf.new ≡ patched buf.old 0 (strip_of stops.now (Line.Straight v) z) }
 {
-    match l {
-        Line::Straight(v) => {
-            if p.in_sections {
-                draw_sections(ramp, stops, v, z, buf);
-            } else {
-                draw_with(ramp, p, stops, l, z, buf);
-            }
-        }
-        Line::Circle(_) => draw_with(ramp, p, stops, l, z, buf),
-    }
-}
-
-// `draw_with` twice more, for one table alone each: one of middle size, and the largest. Having one caller, such a copy is inlined all the way into
-// `draw_medium_box` or `draw_large_box`.
-fn draw_with_medium(ramp: &mut [u32], p: Plan, stops: &[u32], l: Line, z: Strip, buf: &mut [u8])
-    requires { Drawable stops.now l z (length buf.old) × Room p.base (length ramp.old) }
-    ensures { buf.new ≡ patched buf.old 0 (strip_of stops.now l z) }
-{
-    ramp::set_table(ramp, stops, p.base);
-    draw_ready(ramp, p.shift, l, z, buf);
-}
-
-fn draw_with_most(ramp: &mut [u32], p: Plan, stops: &[u32], l: Line, z: Strip, buf: &mut [u8])
-    requires { Drawable stops.now l z (length buf.old) × Room p.base (length ramp.old) }
-    ensures { buf.new ≡ patched buf.old 0 (strip_of stops.now l z) }
-{
-    ramp::set_table(ramp, stops, p.base);
-    draw_ready(ramp, p.shift, l, z, buf);
+    let mut room = zeros::<SMALL_RAMP>();
+    draw_sections(&mut room[..ramp::HEAD + n], stops, v, z, buf);
 }
 
 // ---- planning
@@ -199,18 +187,17 @@ fn span(first: u32, last: u32) -> usize
     if last < first {
         return 0;
     }
-    let n = (last - first) as usize;
-    if n < LARGE { n + 1 } else { LARGE }
+    LARGE.min((last - first) as usize + 1)
 }
 
 // How many entries a table for a section needs.
 fn section_entries(v: SignedVector, z: Strip) -> usize
     requires { Box z.w z.h × Bounded v × (z.a < z.b) × (z.b ≤ z.h) }
-    ensures { result ≤ most_entries }
+    ensures { result ≤ small_table }
 {
-    let end = picture::at_most(SECTION, z.w);
+    let end = SECTION.min(z.w);
     let n = span(straight::first(v, z, 0, end), straight::last(v, z, 0, end));
-    picture::at_most(SMALL, n + 1)
+    SMALL.min(n + 1)
 }
 
 // Below how many pixels a table of n entries does not pay. One of repeated stops is filled sooner, and without it their colors take longer.
@@ -227,43 +214,39 @@ fn or_a_period(entries: usize, stops: &[u32]) -> usize
     requires { Stops stops.now × (entries ≤ most_entries) }
     ensures { result ≤ most_entries }
 {
-    if entries == 0 {
-        if ramp::is_repeated(stops) {
-            let n = ramp::period(stops) as usize;
-            if n <= SHORT {
-                return n;
-            }
+    if entries == 0 && ramp::is_repeated(stops) {
+        let n = ramp::period(stops) as usize;
+        if n <= SHORT {
+            return n;
         }
     }
     entries
 }
 
-fn straight_plan(stops: &[u32], v: SignedVector, z: Strip) -> Plan
+// How a slanted strip is drawn: as a whole by a plan, or in sections, each with a table of so many entries.
+#[derive(Clone, Copy, Debug, PartialEq, Eq)]
+enum SlantedPlan {
+    Whole(Plan),
+    Sections(usize),
+}
+
+fn straight_plan(stops: &[u32], v: SignedVector, z: Strip) -> SlantedPlan
     requires { Stops stops.now × Box z.w z.h × Bounded v × (z.a < z.b) × (z.b ≤ z.h) }
-    ensures { Planned result most_entries }
+    ensures { SlantedPlanned result }
 {
     let first = straight::first(v, z, 0, z.w);
     let n = span(first, straight::last(v, z, 0, z.w));
     let shift = straight::shift_of(v);
     let some = straight::entries(v, shift, z, n, few_pixels(n, ramp::is_repeated(stops)));
     let entries = or_a_period(some, stops);
-    let base = base_of(first);
-    if SMALL < entries {
-        if z.b - z.a <= LOW {
-            return Plan {
-                base,
-                entries: section_entries(v, z),
-                shift,
-                in_sections: true,
-            };
-        }
+    if SMALL < entries && z.b - z.a <= LOW {
+        return SlantedPlan::Sections(section_entries(v, z));
     }
-    Plan {
-        base,
+    SlantedPlan::Whole(Plan {
+        base: base_of(first),
         entries,
         shift,
-        in_sections: false,
-    }
+    })
 }
 
 fn circle_plan(c: BiasedCenter, z: Strip) -> Plan
@@ -274,152 +257,20 @@ fn circle_plan(c: BiasedCenter, z: Strip) -> Plan
     Plan {
         base: base_of(first),
         entries: span(first, circle::last(c, z)),
-        shift: straight::no_shift(),
-        in_sections: false,
-    }
-}
-
-// Whether one tiny table, or none, does.
-fn is_tiny(p: Plan) -> bool
-    ensures { result ≡ true → p.entries ≤ tiny_table }
-{
-    if p.in_sections {
-        return false;
-    }
-    p.entries <= TINY
-}
-
-// Whether a table of middle size does.
-fn is_medium(p: Plan) -> bool
-    ensures { result ≡ true → p.entries ≤ medium_table }
-{
-    p.entries <= MEDIUM
-}
-
-// ---- with tables of five sizes
-
-fn no_room() -> [u32; ramp::HEAD] {
-    [0u32; ramp::HEAD]
-}
-
-fn tiny_room() -> [u32; TINY_RAMP] {
-    [0u32; TINY_RAMP]
-}
-
-fn small_room() -> [u32; SMALL_RAMP] {
-    [0u32; SMALL_RAMP]
-}
-
-fn medium_room() -> [u32; MEDIUM_RAMP] {
-    [0u32; MEDIUM_RAMP]
-}
-
-fn large_room() -> [u32; LARGE_RAMP] {
-    [0u32; LARGE_RAMP]
-}
-
-fn with_none(p: Plan, stops: &[u32], l: Line, z: Strip, buf: &mut [u8])
-    requires { Drawable stops.now l z (length buf.old) × (p.base ≤ last_base) }
-    ensures { buf.new ≡ patched buf.old 0 (strip_of stops.now l z) }
-{
-    let mut room = no_room();
-    draw_with(&mut room, p, stops, l, z, buf);
-}
-
-fn with_tiny(p: Plan, stops: &[u32], l: Line, z: Strip, buf: &mut [u8])
-    requires { Drawable stops.now l z (length buf.old) × Planned p tiny_table }
-    ensures { buf.new ≡ patched buf.old 0 (strip_of stops.now l z) }
-{
-    let mut room = tiny_room();
-    let n = ramp::HEAD + p.entries;
-    draw_with(&mut room[..n], p, stops, l, z, buf);
-}
-
-fn with_small(p: Plan, stops: &[u32], l: Line, z: Strip, buf: &mut [u8])
-    requires { Drawable stops.now l z (length buf.old) × Planned p small_table }
-    ensures { buf.new ≡ patched buf.old 0 (strip_of stops.now l z) }
-{
-    let mut room = small_room();
-    let n = ramp::HEAD + p.entries;
-    draw_in_room(&mut room[..n], p, stops, l, z, buf);
-}
-
-fn with_medium(p: Plan, stops: &[u32], l: Line, z: Strip, buf: &mut [u8])
-    requires { Drawable stops.now l z (length buf.old) × Planned p medium_table }
-    ensures { buf.new ≡ patched buf.old 0 (strip_of stops.now l z) }
-{
-    let mut room = medium_room();
-    let n = ramp::HEAD + p.entries;
-    draw_with_medium(&mut room[..n], p, stops, l, z, buf);
-}
-
-fn with_large(p: Plan, stops: &[u32], l: Line, z: Strip, buf: &mut [u8])
-    requires { Drawable stops.now l z (length buf.old) × Planned p most_entries }
-    ensures { buf.new ≡ patched buf.old 0 (strip_of stops.now l z) }
-{
-    let mut room = large_room();
-    let n = ramp::HEAD + p.entries;
-    draw_with_most(&mut room[..n], p, stops, l, z, buf);
-}
-
-// With a tiny table, or none.
-fn draw_small_box(p: Plan, stops: &[u32], l: Line, z: Strip, buf: &mut [u8])
-    requires { Drawable stops.now l z (length buf.old) × Planned p tiny_table }
-    ensures { buf.new ≡ patched buf.old 0 (strip_of stops.now l z) }
-{
-    if p.entries == 0 {
-        with_none(p, stops, l, z, buf);
-    } else {
-        with_tiny(p, stops, l, z, buf);
-    }
-}
-
-// With a small table or one of middle size. Only this function takes the stack for the latter, and only the next one that for the largest: inlined, they
-// would take it for every small picture, too.
-#[inline(never)]
-fn draw_medium_box(p: Plan, stops: &[u32], l: Line, z: Strip, buf: &mut [u8])
-    requires { Drawable stops.now l z (length buf.old) × Planned p medium_table }
-    ensures { buf.new ≡ patched buf.old 0 (strip_of stops.now l z) }
-{
-    if p.entries <= SMALL {
-        with_small(p, stops, l, z, buf);
-    } else {
-        with_medium(p, stops, l, z, buf);
-    }
-}
-
-// With a small or the largest table. A plan for a small one is drawn above.
-#[inline(never)]
-fn draw_large_box(p: Plan, stops: &[u32], l: Line, z: Strip, buf: &mut [u8])
-    requires { Drawable stops.now l z (length buf.old) × Planned p most_entries }
-    ensures { buf.new ≡ patched buf.old 0 (strip_of stops.now l z) }
-{
-    if p.entries <= SMALL {
-        with_small(p, stops, l, z, buf);
-    } else {
-        with_large(p, stops, l, z, buf);
+        shift: None,
     }
 }
 
 // ---- by what the line and the colors are like
 
-fn level() -> SignedVector
-    ensures { (result.y ≡ 0) × Bounded result }
+// A vector of length 1 to the right or straight down.
+fn unit_vector(x: u32, y: u32) -> SignedVector
+    requires { x + y ≡ 1 }
+    ensures { (result.x ≡ x) × (result.y ≡ y) × Bounded result }
 {
     SignedVector {
-        x: 1,
-        y: 0,
-        left: false,
-        up: false,
-    }
-}
-
-fn upright() -> SignedVector
-    ensures { (result.x ≡ 0) × Bounded result }
-{
-    SignedVector {
-        x: 0,
-        y: 1,
+        x,
+        y,
         left: false,
         up: false,
     }
@@ -431,9 +282,9 @@ fn draw_one_color(stops: &[u32], l: Line, z: Strip, buf: &mut [u8])
     ensures { buf.new ≡ patched buf.old 0 (strip_of stops.now l z) }
 {
     if MANY <= z.w * (z.b - z.a) {
-        axisrows::draw_vertical(stops, upright(), z, buf);
+        axisrows::draw_vertical(stops, unit_vector(0, 1), z, buf);
     } else {
-        axisrows::draw_horizontal(stops, level(), z, buf);
+        axisrows::draw_horizontal(stops, unit_vector(1, 0), z, buf);
     }
 }
 
@@ -442,28 +293,9 @@ fn draw_slanted(stops: &[u32], v: SignedVector, z: Strip, buf: &mut [u8])
     requires { Drawable stops.now (Line.Straight v) z (length buf.old) }
     ensures { buf.new ≡ patched buf.old 0 (strip_of stops.now (Line.Straight v) z) }
 {
-    let p = straight_plan(stops, v, z);
-    if is_tiny(p) {
-        draw_small_box(p, stops, Line::Straight(v), z, buf);
-    } else if is_medium(p) {
-        draw_medium_box(p, stops, Line::Straight(v), z, buf);
-    } else {
-        draw_large_box(p, stops, Line::Straight(v), z, buf);
-    }
-}
-
-// Draws a strip around a circle's center.
-fn draw_around(stops: &[u32], c: BiasedCenter, z: Strip, buf: &mut [u8])
-    requires { Drawable stops.now (Line.Circle c) z (length buf.old) }
-    ensures { buf.new ≡ patched buf.old 0 (strip_of stops.now (Line.Circle c) z) }
-{
-    let p = circle_plan(c, z);
-    if is_tiny(p) {
-        draw_small_box(p, stops, Line::Circle(c), z, buf);
-    } else if is_medium(p) {
-        draw_medium_box(p, stops, Line::Circle(c), z, buf);
-    } else {
-        draw_large_box(p, stops, Line::Circle(c), z, buf);
+    match straight_plan(stops, v, z) {
+        SlantedPlan::Whole(p) => draw_planned(p, stops, Line::Straight(v), z, buf),
+        SlantedPlan::Sections(n) => draw_in_sections(n, stops, v, z, buf),
     }
 }
 
@@ -482,7 +314,7 @@ fn draw_colors(stops: &[u32], l: Line, z: Strip, buf: &mut [u8])
                 draw_slanted(stops, v, z, buf);
             }
         }
-        Line::Circle(c) => draw_around(stops, c, z, buf),
+        Line::Circle(c) => draw_planned(circle_plan(c, z), stops, l, z, buf),
     }
 }
 

@@ -15,7 +15,8 @@ use Rattle.color.specs.declared.Rgba.{Rgba}
 use Rattle.color.proofs.Mix.{mix-same}
 use Rattle.color.proofs.Lent.{color-first, color-last}
 use Rattle.walk.specs.Walk.{Further, Fits}
-use Rattle.walk.specs.Channels.{walk_of, Going, Staying, mix_of}
+use Rattle.walk.specs.Channels.{channel_of, Going, Staying, mix_of}
+use Rattle.walk.specs.declared.Walk.{Walk}
 use Rattle.walk.specs.declared.Channels.{Channels}
 use Rattle.walk.proofs.Four.{rgba-is}
 use Rattle.table.specs.Table.{packed, farthest, entry_of, entry_at, walked_at, Reached, Splits, Ends, Run, Flat, Stretched, Near, Leaps}
@@ -82,7 +83,7 @@ module _ (ps vs : List ℕ) (h : Lent ps vs) (i at first end : ℕ) (z : i + 1 <
   pub some-between : first < end
   some-between = some ps h.rising (i + 1) first end (omega arith) front e
 
-  pub stretched-between : (c : Channels) → Going vs i (get_or ps (i + 1) 0 - get_or ps i 0) 1 (first - get_or ps i 0) 262144 c
+  pub stretched-between : (c : Channels Walk) → Going vs i (get_or ps (i + 1) 0 - get_or ps i 0) 1 (first - get_or ps i 0) 262144 c
       → Stretched (entry_of ps vs) (record { first = first; count = end - first; walks = c })
   stretched-between c g =
       let n : first ≤ twice_bias = omega arith in
@@ -100,7 +101,7 @@ module _ (ps vs : List ℕ) (h : Lent ps vs) (i at first end : ℕ) (z : i + 1 <
         colors = λ k m. (rw x at (walked-entry ps vs h first 1 0 (end - first) (end - first) r i l z k (omega arith) m)) ∙ ap (entry_of ps vs) (unit first k);
       }
 
-  pub near-between : (b : ℕ) → b ≤ first → (c : Channels) → Near ps at b (record { first = first; count = end - first; walks = c })
+  pub near-between : (b : ℕ) → b ≤ first → (c : Channels Walk) → Near ps at b (record { first = first; count = end - first; walks = c })
   near-between b m c =
       let e₁ : i + 1 + (length ps - 1 - (i + 1)) ≡ length ps - 1 = omega arith in
       record {
@@ -140,7 +141,7 @@ twice vs i =
     values_at vs i red ∷ values_at vs i green ∷ values_at vs i blue ∷ values_at vs i alpha
     ∷ values_at vs i red ∷ values_at vs i green ∷ values_at vs i blue ∷ values_at vs i alpha ∷ []
 
-staying : (vs : List ℕ) (i : ℕ) (w : Channels) → Staying vs i w → Going (twice vs i) 0 262144 1 0 262144 w
+staying : (vs : List ℕ) (i : ℕ) (w : Channels Walk) → Staying vs i w → Going (twice vs i) 0 262144 1 0 262144 w
 staying vs i w h red = h red
 staying vs i w h green = h green
 staying vs i w h blue = h blue
@@ -178,7 +179,7 @@ module _ (ps vs : List ℕ) (h : Lent ps vs) (i first k end : ℕ) (f : Flat ps 
           rw q (entry-is ps vs h _ (first + 0 * 1) (color-last ps vs h _ m (z ∙ flat-place) all))
           ∙ flat-last ps vs h first 1 0 (end - first) (end - first) flat-run m (z ∙ flat-place) all n (omega arith) l
 
-  pub stretched-flat : (c : Channels) → Staying vs i c → Stretched (entry_of ps vs) (record { first = first; count = end - first; walks = c })
+  pub stretched-flat : (c : Channels Walk) → Staying vs i c → Stretched (entry_of ps vs) (record { first = first; count = end - first; walks = c })
   stretched-flat c g = record {
     values = twice vs i;
     place = 0;
@@ -212,10 +213,10 @@ module _ (color : ℕ → ℕ) (t : Stretch) (h : Stretched color t) (n : ℕ) (
   begun : Reached h.values h.place h.gap 1 h.start 0 0 t.walks
   begun = h.reached (omega arith)
 
-  leap-fits : (c : Channel) → Fits n (walk_of t.walks c)
+  leap-fits : (c : Channel) → Fits n (channel_of t.walks c)
   leap-fits = reached-fits h.values h.place h.gap 1 h.start 0 t.count 0 t.walks (omega arith) h.spans begun n there
 
-  pub stretched-color : (v : Channels) → ((c : Channel) → Further n (walk_of t.walks c) (walk_of v c)) → (p : Rgba)
+  pub stretched-color : (v : Channels Walk) → ((c : Channel) → Further n (channel_of t.walks c) (channel_of v c)) → (p : Rgba)
       → ((us : List ℕ) (j g s x left : ℕ) → Going us j g s x (left + 1) v → p ≡ mix_of us j x (g - x)) → packed p ≡ color (t.first + n)
   stretched-color v e p f =
       let r = reached-further h.values h.place h.gap 1 h.start 0 t.count 0 t.walks (omega arith) h.spans begun n there v e in

@@ -8,7 +8,8 @@ use native.Mathlib.Omega.{arith}
 use Rattle.color.specs.Stop.{Channel}
 use Rattle.color.specs.declared.Rgba.{Rgba}
 use Rattle.walk.specs.Walk.{Further, Fits}
-use Rattle.walk.specs.Channels.{walk_of, Going, Alike, mix_of}
+use Rattle.walk.specs.Channels.{channel_of, Going, Alike, mix_of}
+use Rattle.walk.specs.declared.Walk.{Walk}
 use Rattle.walk.specs.declared.Channels.{Channels}
 use Rattle.walk.proofs.Four.{going-fits, going-further, going-steady}
 use Rattle.table.specs.Table.{packed, walked_at, Reached, Spans}
@@ -26,7 +27,7 @@ spans-less g s x a b c l h =
     record { few = omega (arith, h.few); within = omega (arith, h.within) }
 
 -- the first entry
-pub reached-first : (vs : List ℕ) (i g s x a : ℕ) (w : Channels) → Going vs i g s x 262144 w → Reached vs i g s x a a w
+pub reached-first : (vs : List ℕ) (i g s x a : ℕ) (w : Channels Walk) → Going vs i g s x 262144 w → Reached vs i g s x a a w
 reached-first vs i g s x a w h =
     let z : a - a ≡ 0 = omega arith in
     let m : (a - a) * s ≡ 0 * s = ap (λ (k : ℕ). k * s) z in
@@ -41,7 +42,7 @@ along s x a k n h =
     let m : (k - a + n) * s ≡ (k + n - a) * s = ap (λ (z : ℕ). z * s) e in
     omega arith
 
-module _ (vs : List ℕ) (i g s x a b k : ℕ) (w : Channels) (h : a ≤ k) (sp : Spans g s x a b) (r : Reached vs i g s x a k w) where
+module _ (vs : List ℕ) (i g s x a b k : ℕ) (w : Channels Walk) (h : a ≤ k) (sp : Spans g s x a b) (r : Reached vs i g s x a k w) where
   module _ (n : ℕ) (l : k + n < b) where
     toward : Going vs i g s (x + (k - a) * s) (262144 - (k + n - a) + n) w
     toward =
@@ -51,10 +52,10 @@ module _ (vs : List ℕ) (i g s x a b k : ℕ) (w : Channels) (h : a ≤ k) (sp 
     near : x + (k - a) * s + n * s ≤ g
     near = rw (along s x a k n h) (inside g s x a b (k + n) l sp)
 
-    pub reached-fits : (c : Channel) → Fits n (walk_of w c)
+    pub reached-fits : (c : Channel) → Fits n (channel_of w c)
     reached-fits = going-fits n vs i g s (x + (k - a) * s) (262144 - (k + n - a)) w near toward
 
-    pub reached-further : (v : Channels) → ((c : Channel) → Further n (walk_of w c) (walk_of v c)) → Reached vs i g s x a (k + n) v
+    pub reached-further : (v : Channels Walk) → ((c : Channel) → Further n (channel_of w c) (channel_of v c)) → Reached vs i g s x a (k + n) v
     reached-further v e = rw (along s x a k n h) at (going-further n vs i g s (x + (k - a) * s) (262144 - (k + n - a)) w near toward v e)
 
   -- the color where the walks are
@@ -66,7 +67,7 @@ module _ (vs : List ℕ) (i g s x a b k : ℕ) (w : Channels) (h : a ≤ k) (sp 
       ap packed (e vs i g s (x + (k - a) * s) (262143 - (k - a)) (rw e₁ at r))
 
   -- a leap that ends at the color where it began passes no other
-  pub reached-steady : (n : ℕ) → k + n < b → (v : Channels) → ((c : Channel) → Further n (walk_of w c) (walk_of v c)) → Alike w v
+  pub reached-steady : (n : ℕ) → k + n < b → (v : Channels Walk) → ((c : Channel) → Further n (channel_of w c) (channel_of v c)) → Alike w v
       → (j : ℕ) → k ≤ j → j ≤ k + n → walked_at vs i g s x a k ≡ walked_at vs i g s x a j
   unfolding walked_at
   reached-steady n l v e same j m o =
@@ -76,8 +77,8 @@ module _ (vs : List ℕ) (i g s x a b k : ℕ) (w : Channels) (h : a ≤ k) (sp 
       ap packed (sym (rw (along s x a k (j - k) h, e₂) at z))
 
 -- past n entries
-pub reached-past : (n m : ℕ) → n ≡ m + 1 → (vs : List ℕ) (i g s x a k b : ℕ) → k + n < b → (w v u : Channels) → a ≤ k → Reached vs i g s x a k w
-    → ((c : Channel) → Further m (walk_of w c) (walk_of v c)) → ((c : Channel) → Fits 1 (walk_of v c) → Further 1 (walk_of v c) (walk_of u c))
+pub reached-past : (n m : ℕ) → n ≡ m + 1 → (vs : List ℕ) (i g s x a k b : ℕ) → k + n < b → (w v u : Channels Walk) → a ≤ k → Reached vs i g s x a k w
+    → ((c : Channel) → Further m (channel_of w c) (channel_of v c)) → ((c : Channel) → Fits 1 (channel_of v c) → Further 1 (channel_of v c) (channel_of u c))
     → Spans g s x a b → Reached vs i g s x a (k + n) u
 reached-past n m z vs i g s x a k b y w v u h r e f sp =
     let r₁ = reached-further vs i g s x a b k w h sp r m (omega arith) v e in

@@ -7,7 +7,8 @@ use Rattle.color.specs.Byte.{color_at}
 use Rattle.color.specs.Lent.{stops_of}
 use Rattle.color.specs.declared.Rgba.{Rgba}
 use Rattle.walk.specs.Walk.{most_steps, Fits}
-use Rattle.walk.specs.Channels.{walk_of, Going, mix_of}
+use Rattle.walk.specs.Channels.{channel_of, Going, mix_of}
+use Rattle.walk.specs.declared.Walk.{Walk}
 use Rattle.walk.specs.declared.Channels.{Channels}
 use Rattle.table.specs.declared.Stretch.{Stretch}
 
@@ -36,7 +37,7 @@ unfoldable pub walked_at : List ℕ → ℕ → ℕ → ℕ → ℕ → ℕ → 
 walked_at vs i g s x a k = packed (mix_of vs i (x + (k - a) * s) (g - (x + (k - a) * s)))
 
 -- the walks at entry k, where they started at entry a
-abbrev pub Reached : List ℕ → ℕ → ℕ → ℕ → ℕ → ℕ → ℕ → Channels → Type 0
+abbrev pub Reached : List ℕ → ℕ → ℕ → ℕ → ℕ → ℕ → ℕ → Channels Walk → Type 0
 Reached vs i g s x a k w = Going vs i g s (x + (k - a) * s) (most_steps - (k - a)) w
 
 -- the entries from a up to b are within the gap, and no more than a walk is right for
@@ -96,7 +97,7 @@ pub record Near (ps : List ℕ) (at low : ℕ) (t : Stretch) : Type 0 where
 -- the walks of a stretch can be leapt to each of its locations, as many as walks are right for
 pub record Leaps (t : Stretch) : Type 0 where
   pub few : t.count < most_steps
-  pub fits : (n : ℕ) → n < t.count → (c : Channel) → Fits n (walk_of t.walks c)
+  pub fits : (n : ℕ) → n < t.count → (c : Channel) → Fits n (channel_of t.walks c)
 
 -- the entries from a up to b are f's numbers, and those before a are as they were
 pub record Stored (f : ℕ → ℕ) (a b : ℕ) (t t' : List ℕ) : Type 0 where

@@ -3,23 +3,19 @@
 use mathlib.Core.Path.{◌≡◌, refl, sym, ap, ◌∙◌}
 use mathlib.Core.List.{List, [], ◌∷◌, ◌++◌}
 use mathlib.Core.Bool.{Bool, true, false, cond, ◌&&◌, true≢false, false≢true}
-use Prim.Native.Nat.{ℕ, suc, ◌+◌, ◌≤◌, ◌<◌}
+use Prim.Native.Nat.{ℕ, ◌+◌, ◌≤◌, ◌<◌}
 use Prim.Native.Char.{Char, code}
 use native.Mathlib.Numerals.{add-one}
 use native.Mathlib.Omega.{arith}
 use lib.Dec.{leb, eqb, eqb-suc-zero}
 use lib.ListN.{length, drop, get_or, drop_of_length-le}
 use lib.Seq.{drop-cons}
-use borrow.Author.Tests.{eq-eqb, ne_eqb, le-leb, lt-leb, leb-true, leb-false, eqb-true}
+use borrow.Author.Tests.{eq-eqb, ne_eqb, le-leb, lt-leb, leb-true, eqb-true}
+use denote.Bor.{Bor}
+use Rattle.std.specs.Prelude.{Option, Some, None}
+use Rattle.std.specs.Option.{option_or}
+use Rattle.text.specs.View.{view}
 use Rattle.text.specs.Text.{in_range, peek_of, rest_of, is_nil, past, run, is_space, lower, keyword_of, Read, got, refused, ◌>>=◌, ◌or_read◌, map_read}
-
--- what is known of an answer, said of the case that it is
-pub seen : {A B : Type 0} (f : A → B) {r r' : A} {x : B} → r ≡ r' → f r ≡ x → f r' ≡ x
-seen f p e = ap f (sym p) ∙ e
-
--- a test p of n, by the answer t that the code got for it
-pub tested : {A : Type 0} (p : A → Bool) {b n : A} {t x : Bool} → b ≡ n → t ≡ p b → t ≡ x → p n ≡ x
-tested p e f g = sym (ap p e) ∙ sym f ∙ g
 
 -- a reading after a reading, by what the first one finds
 module _ {A B : Type 0} (f : A → List ℕ → Read B) {r : Read A} where
@@ -51,13 +47,25 @@ module _ {A : Type 0} {r : Read A} where
   pub or-second : {x t : Read A} → refused ≡ r → x ≡ t → x ≡ (r or_read t)
   or-second h e = rw (← h) e
 
--- what is got changed, by what is found
-module _ {A B : Type 0} (h : A → B) {r : Read A} where
-  pub map-got : {a : A} {k : List ℕ} → got a k ≡ r → got (h a) k ≡ map_read h r
-  map-got e = rw (← e)
+-- three readings and four, one or another of them, grouped the other way
+module _ {A : Type 0} where
+  pub or-three : (r t u : Read A) → ((r or_read t) or_read u) ≡ (r or_read t or_read u)
+  or-three (got a l) t u = refl
+  or-three refused t u = refl
 
-  pub map-refused : refused ≡ r → refused ≡ map_read h r
-  map-refused e = rw (← e)
+  pub or-four : (r t u v : Read A) → (((r or_read t) or_read u) or_read v) ≡ (r or_read t or_read u or_read v)
+  or-four (got a l) t u v = refl
+  or-four refused t u v = or-three t u v
+
+-- four answers of the code, one or another of them
+or_view : {A : Type 0} (a b : Option (A × Bor (List ℕ))) → view (option_or a b) ≡ (view a or_read view b)
+or_view (Some (x, rest)) b = refl
+or_view None b = refl
+
+pub any-of-four : {A : Type 0} (a b c d : Option (A × Bor (List ℕ))) {m n o : Option (A × Bor (List ℕ))} {r t u v : Read A}
+    → m ≡ option_or a b → n ≡ option_or m c → o ≡ option_or n d → view a ≡ r → view b ≡ t → view c ≡ u → view d ≡ v → view o ≡ (r or_read t or_read u or_read v)
+any-of-four a b c d {m = m} {n = n} {r = r} {t = t} {u = u} {v = v} e f g ha hb hc hd =
+    rw (g, or_view n d, f, or_view m c, e, or_view a b, ha, hb, hc, hd) (or-four r t u v)
 
 -- a change of what is got goes through the ways in which readings are made of readings
 pub map-bind : {A B C D : Type 0} (h : C → D) (g : A → B) (f : A → List ℕ → Read C) (f' : B → List ℕ → Read D)
@@ -98,10 +106,6 @@ Gets P refused = Unit {0}
 pub gets-is : {A : Type 0} (P : A → Type 0) {a : A} {k : List ℕ} {r : Read A} → got a k ≡ r → Gets P r → P a
 gets-is P e p = rw (← e) at p
 
-pub gets-any : {A : Type 0} (P : A → Type 0) → ((a : A) → P a) → (r : Read A) → Gets P r
-gets-any P p (got a l) = p a
-gets-any P p refused = tt
-
 pub gets-map : {A B : Type 0} (P : A → Type 0) (Q : B → Type 0) (h : A → B) → ((a : A) → P a → Q (h a)) → (r : Read A) → Gets P r → Gets Q (map_read h r)
 gets-map P Q h f (got a l) p = f a p
 gets-map P Q h f refused p = tt
@@ -121,31 +125,6 @@ gets-or P refused t p q = q
 pub gets-cond : {A : Type 0} (P : A → Type 0) (b : Bool) (r t : Read A) → Gets P r → Gets P t → Gets P (cond b r t)
 gets-cond P true r t p q = p
 gets-cond P false r t p q = q
-
--- the text l from its place i on
-module _ (l : List ℕ) (i : ℕ) where
-  pub peek-in : i < length l → get_or l i 0 ≡ peek_of (drop i l)
-  unfolding peek_of
-  peek-in h = rw (drop-cons l i 0)
-
-  pub peek-end : length l ≤ i → 0 ≡ peek_of (drop i l)
-  unfolding peek_of
-  peek-end h = rw (drop_of_length-le l)
-
-  pub rest_in : i < length l → drop (i + 1) l ≡ rest_of (drop i l)
-  unfolding rest_of
-  rest_in h = rw (add-one, drop-cons l i 0)
-
-  pub rest_end : length l ≤ i → drop i l ≡ rest_of (drop i l)
-  unfolding rest_of
-  rest_end h = rw (drop_of_length-le l)
-
-pub nil-at : (l : List ℕ) (i : ℕ) → leb (length l) i ≡ is_nil (drop i l)
-nil-at l i = go (leb (length l) i) refl
-  where
-    go : (t : Bool) → leb (length l) i ≡ t → t ≡ is_nil (drop i l)
-    go true e = rw (drop_of_length-le l (leb-true _ _ e))
-    go false e = rw (drop-cons l i 0 (leb-false _ _ e))
 
 pub nil-length : {A : Type 0} (l : List A) → eqb (length l) 0 ≡ is_nil l
 nil-length [] = refl
@@ -180,11 +159,6 @@ module _ (p : ℕ → Bool) (end : p 0 ≡ false) where
   past-on [] h = refl
   past-on (b ∷ l) h = rw h
 
-  pub run_on : (l : List ℕ) → p (peek_of l) ≡ true → run p l ≡ peek_of l ∷ run p (rest_of l)
-  unfolding run peek_of rest_of
-  run_on [] h = absurd (true≢false (sym h ∙ end))
-  run_on (b ∷ l) h = rw h
-
   pub rest-less : (l : List ℕ) → p (peek_of l) ≡ true → length (rest_of l) < length l
   unfolding peek_of rest_of
   rest-less [] h = absurd (true≢false (sym h ∙ end))
@@ -200,15 +174,6 @@ module _ (p : ℕ → Bool) (end : p 0 ≡ false) where
   run-stop [] h = refl
   run-stop (b ∷ l) h = rw h
 
-pub run_short : (p : ℕ → Bool) (l : List ℕ) → length (run p l) ≤ length l
-unfolding run
-run_short p [] = omega arith
-run_short p (b ∷ l) = go (p b) (run_short p l)
-  where
-    go : (t : Bool) → length (run p l) ≤ length l → length (cond t (b ∷ run p l) []) ≤ suc (length l)
-    go true h = omega arith
-    go false h = omega arith
-
 -- a run and what lies past it are the text
 pub run_past : (p : ℕ → Bool) (l : List ℕ) → run p l ++ past p l ≡ l
 unfolding run past
@@ -218,30 +183,6 @@ run_past p (b ∷ l) = go (p b) (run_past p l)
     go : (t : Bool) → run p l ++ past p l ≡ l → cond t (b ∷ run p l) [] ++ cond t (past p l) (b ∷ l) ≡ b ∷ l
     go true h = ap (λ x. b ∷ x) h
     go false h = refl
-
--- A loop over a run: from l₀ to l it has passed n bytes of the class.
-pub record Passed (p : ℕ → Bool) (l₀ l : List ℕ) (n : ℕ) : Type 0 where
-  pub count : n + length (run p l) ≡ length (run p l₀)
-  pub rest : past p l ≡ past p l₀
-
-pub passed_none : (p : ℕ → Bool) (l : List ℕ) → Passed p l l 0
-passed_none p l = record { count = omega arith; rest = refl }
-
-module _ (p : ℕ → Bool) (end : p 0 ≡ false) (l₀ l : List ℕ) (n : ℕ) (w : Passed p l₀ l n) where
-  one_more : p (peek_of l) ≡ true → length (run p l) ≡ suc (length (run p (rest_of l)))
-  one_more h = ap length (run_on p end l h)
-
-  pub passed-more : p (peek_of l) ≡ true → Passed p l₀ (rest_of l) (n + 1)
-  passed-more h = record { count = omega (arith, w.count, one_more h); rest = past-on p end l h ∙ w.rest }
-
-  pub passed-below : p (peek_of l) ≡ true → n < length l₀
-  passed-below h = omega (arith, w.count, one_more h, run_short p l₀)
-
-  pub passed-count : p (peek_of l) ≡ false → n ≡ length (run p l₀)
-  passed-count h = let k : length (run p l) ≡ 0 = ap length (run-stop p end l h) in omega (arith, w.count)
-
-  pub passed-rest : p (peek_of l) ≡ false → l ≡ past p l₀
-  passed-rest h = past_stop p end l h ∙ w.rest
 
 pub space-end : is_space 0 ≡ false
 unfolding is_space

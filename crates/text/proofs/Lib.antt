@@ -1,2 +1,4 @@
 pub mod Laws
-pub mod Whole
+pub mod WholeTexts
+pub mod Runs
+pub mod Space

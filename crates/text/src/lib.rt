@@ -1,114 +1,88 @@
-// Reading a text of bytes at a cursor. Each contract speaks of the rest of the text, from the cursor on; no cursor is out of bounds.
+// Reading a text of bytes. A reading takes the text from some place on, and answers what it found there and the rest after it.
 #![tactic(auto)]
 
-ghost use Rattle.std.specs.Prelude.{◌≡◌, drop, get_or};
-ghost use Rattle.text.specs.Text.{peek_of, rest_of, is_nil, past, is_space, gap_of, lower, keyword_of};
-ghost use Rattle.text.specs.View.{view_match};
+ghost use Rattle.std.specs.Prelude.{◌≡◌, ℕ, Bool, List};
+ghost use Rattle.text.specs.Text.{peek_of, rest_of, past, is_space, gap_of, lower, keyword_of, Read, whole_of};
+ghost use Rattle.text.specs.View.{view, view_rest, bytes_for, view_whole, Reads, Tests, SplitsRun};
 
-#[derive(Clone, Copy)]
-pub struct Cursor {
-    pub at: usize,
-}
-
-// Past what was looked for, or not there.
-#[derive(Clone, Copy)]
-pub enum Match {
-    Past(Cursor),
-    Not,
-}
-
-// The byte at the cursor, 0 at the end.
-pub fn peek(s: &[u8], c: Cursor) -> u8
-    ensures { result ≡ peek_of (drop c.at s.now) }
+// The longest run of bytes of a class at the front of the text, and what lies past it.
+pub fn run<P: Fn(u8) -> bool>(s: &[u8], class: P) -> (&[u8], &[u8])
+    requires { P.IsAlwaysCallable class }
+    ensures { (p : ℕ → Bool) → Tests P.Fn class p → SplitsRun p s.now result.0.now result.1.now }
 {
-    let at = c.at;
-    if at < s.len() { s[at] } else { 0 }
+    let end = s.iter().position(|b| !class(*b)).unwrap_or(s.len());
+    s.split_at(end)
 }
 
-// The byte that stands i places on from the cursor, 0 past the end.
-pub fn peek_at(s: &[u8], c: Cursor, i: usize) -> u8
-    ensures { result ≡ get_or (drop c.at s.now) i 0 }
+// The text after the white space that it begins with.
+#[tactic(auto, using(crate::proofs::Space::same_space))]
+pub fn skip_space(s: &[u8]) -> &[u8]
+    ensures { result.now ≡ past is_space s.now }
 {
-    let at = c.at;
-    if at < s.len() {
-        if i < s.len() - at {
-            return s[at + i];
-        }
-    }
-    0
-}
-
-// The cursor one byte on; at the end it stays.
-pub fn step(s: &[u8], c: Cursor) -> Cursor
-    ensures { drop result.at s.now ≡ rest_of (drop c.at s.now) }
-{
-    let at = c.at;
-    if at < s.len() {
-        Cursor { at: at + 1 }
-    } else {
-        c
-    }
-}
-
-pub fn is_end(s: &[u8], c: Cursor) -> bool
-    ensures { result ≡ is_nil (drop c.at s.now) }
-{
-    let at = c.at;
-    s.len() <= at
-}
-
-pub fn is_space(b: u8) -> bool
-    ensures { result ≡ is_space b }
-{
-    match b {
-        b' ' | b'\t' | b'\n' | b'\r' | b'\x0c' => true,
-        _ => false,
-    }
-}
-
-// Past the white space at the cursor.
-pub fn skip_space(s: &[u8], c: Cursor) -> Cursor
-    ensures { drop result.at s.now ≡ past is_space (drop c.at s.now) }
-{
-    let mut k = c;
-    while is_space(peek(s, k)) {
-        k = step(s, k);
-    }
-    k
+    let (_, rest) = run(s, |b| b.is_ascii_whitespace());
+    rest
 }
 
 // White space, at least one.
-pub fn gap(s: &[u8], c: Cursor) -> Match
-    ensures { view_match s.now result ≡ gap_of (drop c.at s.now) }
+#[tactic(auto, using(crate::proofs::Space::gap_laws))]
+pub fn gap(s: &[u8]) -> Option<&[u8]>
+    ensures { view_rest result ≡ gap_of s.now }
 {
-    if is_space(peek(s, c)) {
-        Match::Past(skip_space(s, c))
+    let rest = skip_space(s);
+    if rest.len() < s.len() {
+        Some(rest)
     } else {
-        Match::Not
+        None
     }
 }
 
-pub fn lower_case(b: u8) -> u8
-    ensures { result ≡ lower b }
+// The first byte, in lower case, and what follows it. The end counts as a byte 0.
+#[tactic(auto, using(crate::proofs::Space::lower_laws), unfolding(crate::specs::Text::peek_of, crate::specs::Text::rest_of))]
+pub fn first_letter(s: &[u8]) -> (u8, &[u8])
+    ensures letter { result.0 ≡ lower (peek_of s.now) }
+    ensures rest { result.1.now ≡ rest_of s.now }
 {
-    match b {
-        b'A'..=b'Z' => b + 32,
-        _ => b,
+    match s {
+        [b, rest @ ..] => (b.to_ascii_lowercase(), rest),
+        [] => (0, s),
     }
 }
 
-// The word at the cursor, its letters in either case. `word` is in lower case.
-pub fn keyword(s: &[u8], c: Cursor, word: &[u8]) -> Match
-    ensures { view_match s.now result ≡ keyword_of word.now (drop c.at s.now) }
+// The word at the front of the text, its letters in either case. `word` is in lower case.
+pub fn keyword<'a>(s: &'a [u8], word: &[u8]) -> Option<&'a [u8]>
+    ensures { view_rest result ≡ keyword_of word.now s.now }
 {
-    let mut k = c;
-    let mut i = 0;
-    while i < word.len() {
-        if lower_case(peek(s, k)) != word[i] {
-            return Match::Not;
+    let mut rest = s;
+    for letter in word {
+        let (first, after) = first_letter(rest);
+        if first != *letter {
+            return None;
         }
-        k = step(s, k);
-        i += 1;
+        rest = after;
     }
-    Match::Past(k)
+    Some(rest)
+}
+
+// A word that stands for a value.
+pub fn word_for<'a, T: Copy>(s: &'a [u8], word: &[u8], value: T) -> Option<(T, &'a [u8])>
+    ensures { view result ≡ bytes_for word.now value s.now }
+{
+    let rest = keyword(s, word)?;
+    Some((value, rest))
+}
+
+// A reading of a whole text, with white space around it.
+pub fn whole<'a, T: Copy, F: Fn(&'a [u8]) -> Option<(T, &'a [u8])>>(
+    s: &'a [u8],
+    read: F,
+) -> Option<T>
+    requires { F.IsAlwaysCallable read }
+    ensures { (grammar : List ℕ → Read T) → Reads F.Fn read grammar → view_whole result ≡ whole_of grammar s.now }
+{
+    let (value, rest) = read(skip_space(s))?;
+    if skip_space(rest).is_empty() {
+        Some(value)
+    } else {
+        None
+    }
 }

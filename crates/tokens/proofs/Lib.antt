@@ -1,5 +1,4 @@
 pub mod Cut
-pub mod Tables
 pub mod Hex
 pub mod Decimal
 pub mod Magnitudes

@@ -10,6 +10,7 @@ use lib.ListN.{length, get_or}
 use borrow.Author.Tests.{eq-eqb, ne_eqb}
 use Rattle.gradient.specs.Lists.{all}
 use Rattle.text.specs.Text.{peek_of, rest_of, lower, Read, got, refused, ◌>>=◌, ◌or_read◌, keyword_of}
+use Rattle.text.specs.View.{bytes_for}
 use Rattle.text.proofs.Laws.{got-refused, keyword-letter}
 use Rattle.gradient.specs.declared.Color.{Color}
 use Rattle.tokens.specs.Color.{Row, color_names, row_at, row_of, named_of, begins, apart}
@@ -110,9 +111,15 @@ module _ (l : List ℕ) (x : ℕ) (e : x ≡ lower (peek_of l)) where
   pub these-names : {t : List Row} → only x color_names ≡ t → named_of t l ≡ named_of color_names l
   these-names q = ap (λ t. named_of t l) (sym q) ∙ by-letter color_names
 
-  pub one_name : {w : Row} → only x color_names ≡ w ∷ [] → row_of w l ≡ named_of color_names l
-  unfolding named_of
-  one_name q = or-none _ ∙ these-names q
+  -- what the code finds of the one name, or of the two
+  module _ {w : Row} where
+    pub one_name : only x color_names ≡ w ∷ [] → {v : Color} {r : Read Color} → v ≡ w.color → r ≡ bytes_for w.name v l → r ≡ named_of color_names l
+    unfolding named_of row_of
+    one_name q p h = h ∙ ap (λ v. bytes_for w.name v l) p ∙ or-none _ ∙ these-names q
+
+    pub two_names : {v : Row} → only x color_names ≡ w ∷ v ∷ [] → (bytes_for w.name w.color l or_read bytes_for v.name v.color l) ≡ named_of color_names l
+    unfolding named_of row_of
+    two_names {v} q = ap (λ (r : Read Color). bytes_for w.name w.color l or_read r) (or-none (bytes_for v.name v.color l)) ∙ these-names q
 
 -- a letter that no name begins with
 abbrev NoneLeads : ℕ → List Row → Type 0

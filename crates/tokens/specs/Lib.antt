@@ -1,5 +1,4 @@
 pub mod Number
 pub mod Cut
 pub mod Color
-pub mod View
 pub mod Worked

@@ -1,18 +1,18 @@
-// Numbers and colors of the text, read at a cursor.
+// Numbers and colors of the text.
 #![tactic(auto)]
 
-ghost use Rattle.std.specs.Prelude.{◌≡◌, ◌+◌, ◌*◌, ◌-◌, ◌%◌, ◌≤◌, ◌<◌, min, true, [], ◌∷◌, drop};
+ghost use Rattle.std.specs.Prelude.{◌≡◌, ◌+◌, ◌*◌, ◌-◌, ◌≤◌, min, [], length};
 ghost use Rattle.text.specs.Text.{map_read};
-ghost use Rattle.tokens.specs.Number.{is_digit, after_sign, signed, fraction_of, magnitude_of, unit_of, number_of};
+ghost use Rattle.text.specs.View.{view, view_whole, SplitsRun};
+ghost use Rattle.tokens.specs.Number.{is_digit, decimal, is_negative, after_sign, signed, fraction_of, magnitude_of, unit_of, number_of};
 ghost use Rattle.tokens.specs.Cut.{cut, most, up_to};
-ghost use Rattle.tokens.specs.Color.{is_hex, hex_value, hex_of, row_of, named_of, color_names, color_of};
-ghost use Rattle.tokens.specs.View.{DigitsAt, HexAt, from_rgba, from_short, name_row, view_amount, view_unit, view_number, view_color};
+ghost use Rattle.tokens.specs.Color.{color, is_hex, hex_value, hex_color, hex_of, named_of, color_names, color_of};
 
 use gradient::Color;
-use text::{Cursor, Match};
+use text::word_for;
 
 // px, % or deg.
-#[derive(Clone, Copy)]
+#[derive(Clone, Copy, Debug, PartialEq, Eq)]
 pub enum Unit {
     Length,
     Percentage,
@@ -20,153 +20,89 @@ pub enum Unit {
 }
 
 // A number in thousandths of its unit, cut off at a million units either way.
-#[derive(Clone, Copy)]
+#[derive(Clone, Copy, Debug, PartialEq, Eq)]
 pub struct Number {
     pub value: i32,
     pub unit: Unit,
 }
 
-#[derive(Clone, Copy)]
-pub enum NumberRead {
-    Got(Number, Cursor),
-    Refused,
-}
+// ---- numbers
 
-#[derive(Clone, Copy)]
-pub enum ColorRead {
-    Got(Color, Cursor),
-    Refused,
-}
-
-// The number that digits write, cut off at a million; how many they are; and what follows them.
-#[derive(Clone, Copy)]
-pub struct Digits {
-    pub value: u32,
-    pub count: usize,
-    pub next: Cursor,
-}
-
-// The number that hex digits write, of more than eight the last eight; how many they are; and what follows them.
-#[derive(Clone, Copy)]
-pub struct HexRun {
-    pub value: u32,
-    pub count: usize,
-    pub next: Cursor,
-}
-
-// A number without sign and unit, in thousandths.
-#[derive(Clone, Copy)]
-pub enum AmountRead {
-    Got(u32, Cursor),
-    Refused,
-}
-
-#[derive(Clone, Copy)]
-pub enum UnitRead {
-    Got(Unit, Cursor),
-    Refused,
-}
-
-fn is_digit(b: u8) -> bool
-    ensures { result ≡ is_digit b }
+// The digits at the front of the text, and what follows them.
+#[tactic(auto, using(crate::proofs::Decimal::same_digit))]
+fn digits(s: &[u8]) -> (&[u8], &[u8])
+    ensures { SplitsRun is_digit s.now result.0.now result.1.now }
 {
-    match b {
-        b'0'..=b'9' => true,
-        _ => false,
-    }
+    text::run(s, |b| b.is_ascii_digit())
 }
 
-// The number with one digit more, cut off at a million.
-fn shift(value: u32, b: u8) -> u32
-    requires { (value ≤ 1000000) × (48 ≤ b) }
-    ensures { result ≡ min (value * 10 + (b - 48)) 1000000 }
+// The number that digits write, cut off at a million.
+#[tactic(auto, using(crate::proofs::Decimal::decimal_laws))]
+fn value_of(digits: &[u8]) -> u32
+    ensures { result ≡ min (decimal 0 digits.now) 1000000 }
 {
-    let n = value * 10 + ((b - b'0') as u32);
-    if n < 1000000 { n } else { 1000000 }
-}
-
-fn read_digits(s: &[u8], c: Cursor) -> Digits
-    ensures { DigitsAt s.now (drop c.at s.now) result }
-{
-    let mut k = c;
     let mut value: u32 = 0;
-    let mut count: usize = 0;
-    while is_digit(text::peek(s, k)) {
-        value = shift(value, text::peek(s, k));
-        count += 1;
-        k = text::step(s, k);
+    for b in digits {
+        value = (value * 10 + b.saturating_sub(b'0') as u32).min(1_000_000);
     }
-    Digits {
-        value: value,
-        count: count,
-        next: k,
-    }
+    value
 }
 
 // The 1 to 3 digits after a point.
-fn read_fraction(s: &[u8], c: Cursor) -> AmountRead
-    ensures { view_amount s.now result ≡ fraction_of (drop c.at s.now) }
+fn read_fraction(s: &[u8]) -> Option<(u32, &[u8])>
+    ensures { view result ≡ fraction_of s.now }
 {
-    let d = read_digits(s, c);
-    let n = d.count;
-    let k = d.next;
-    match n {
-        1 => AmountRead::Got(d.value * 100, k),
-        2 => AmountRead::Got(d.value * 10, k),
-        3 => AmountRead::Got(d.value, k),
-        _ => AmountRead::Refused,
+    let (digits, rest) = digits(s);
+    let value = value_of(digits);
+    match digits.len() {
+        1 => Some((value * 100, rest)),
+        2 => Some((value * 10, rest)),
+        3 => Some((value, rest)),
+        _ => None,
     }
-}
-
-fn up_to(n: u32) -> u32
-    ensures { result ≡ up_to n }
-{
-    if n < 1000000000 { n } else { 1000000000 }
 }
 
 // The digits of a number with or without a point, cut off at a million.
-fn read_magnitude(s: &[u8], c: Cursor) -> AmountRead
-    ensures { view_amount s.now result ≡ map_read up_to (magnitude_of (drop c.at s.now)) }
+fn read_magnitude(s: &[u8]) -> Option<(u32, &[u8])>
+    ensures { view result ≡ map_read up_to (magnitude_of s.now) }
 {
-    let d = read_digits(s, c);
-    let k = d.next;
-    if text::peek(s, k) == b'.' {
-        let AmountRead::Got(f, e) = read_fraction(s, text::step(s, k)) else {
-            return AmountRead::Refused;
-        };
-        return AmountRead::Got(up_to(d.value * 1000 + f), e);
+    let (digits, rest) = digits(s);
+    let units = value_of(digits) * 1000;
+    if let Some(rest) = text::keyword(rest, b".") {
+        let (fraction, rest) = read_fraction(rest)?;
+        return Some(((units + fraction).min(1_000_000_000), rest));
     }
-    if d.count == 0 {
-        return AmountRead::Refused;
+    if digits.is_empty() {
+        None
+    } else {
+        Some((units, rest))
     }
-    AmountRead::Got(d.value * 1000, k)
 }
 
 // The unit of a number of so many thousandths.
-fn read_unit(s: &[u8], c: Cursor, magnitude: u32) -> UnitRead
-    ensures { view_unit s.now result ≡ unit_of magnitude (drop c.at s.now) }
+fn read_unit(s: &[u8], magnitude: u32) -> Option<(Unit, &[u8])>
+    ensures { view result ≡ unit_of magnitude s.now }
 {
-    if let Match::Past(k) = text::keyword(s, c, b"px") {
-        return UnitRead::Got(Unit::Length, k);
-    }
-    if let Match::Past(k) = text::keyword(s, c, b"%") {
-        return UnitRead::Got(Unit::Percentage, k);
-    }
-    if let Match::Past(k) = text::keyword(s, c, b"deg") {
-        return UnitRead::Got(Unit::Angle, k);
-    }
-    if magnitude == 0 {
-        return UnitRead::Got(Unit::Length, c);
-    }
-    UnitRead::Refused
+    word_for(s, b"px", Unit::Length)
+        .or_else(|| word_for(s, b"%", Unit::Percentage))
+        .or_else(|| word_for(s, b"deg", Unit::Angle))
+        .or_else(|| if magnitude == 0 {
+            Some((Unit::Length, s))
+        } else {
+            None
+        })
 }
 
-fn skip_sign(s: &[u8], c: Cursor) -> Cursor
-    ensures { drop result.at s.now ≡ after_sign (drop c.at s.now) }
+// Whether a sign at the front is a minus, and what follows it.
+#[tactic(auto, unfolding(crate::specs::Number::after_sign, crate::specs::Number::is_negative, text::specs::Text::peek_of, text::specs::Text::rest_of))]
+fn read_sign(s: &[u8]) -> (bool, &[u8])
+    ensures negative { result.0 ≡ is_negative s.now }
+    ensures rest { result.1.now ≡ after_sign s.now }
 {
-    match text::peek(s, c) {
-        b'+' | b'-' => text::step(s, c),
-        _ => c,
+    match s {
+        [b'-', rest @ ..] => (true, rest),
+        [b'+', rest @ ..] => (false, rest),
+        _ => (false, s),
     }
 }
 
@@ -175,172 +111,126 @@ fn with_sign(negative: bool, magnitude: u32) -> i32
     ensures { result ≡ signed negative magnitude }
 {
     let n = magnitude as i32;
-    if negative { 0 - n } else { n }
+    if negative { -n } else { n }
 }
 
-pub fn read_number(s: &[u8], c: Cursor) -> NumberRead
-    ensures { view_number s.now result ≡ number_of cut (drop c.at s.now) }
+pub fn read_number(s: &[u8]) -> Option<(Number, &[u8])>
+    ensures { view result ≡ number_of cut s.now }
 {
-    let negative = text::peek(s, c) == b'-';
-    let AmountRead::Got(magnitude, k) = read_magnitude(s, skip_sign(s, c)) else {
-        return NumberRead::Refused;
-    };
-    let UnitRead::Got(unit, e) = read_unit(s, k, magnitude) else {
-        return NumberRead::Refused;
-    };
+    let (negative, rest) = read_sign(s);
+    let (magnitude, rest) = read_magnitude(rest)?;
+    let (unit, rest) = read_unit(rest, magnitude)?;
     let value = with_sign(negative, magnitude);
-    NumberRead::Got(
-        Number {
-            value: value,
-            unit: unit,
-        },
-        e,
-    )
+    Some((Number { value, unit }, rest))
 }
 
-// Bit b - 48 stands for the byte b.
-fn is_hex(b: u8) -> bool
-    ensures { result ≡ is_hex b }
+// ---- colors
+
+const fn rgba(red: u8, green: u8, blue: u8, alpha: u8) -> Color
+    ensures { result ≡ color red green blue alpha }
 {
-    if b < b'0' {
-        return false;
+    Color {
+        red,
+        green,
+        blue,
+        alpha,
     }
-    if b'f' < b {
-        return false;
-    }
-    0x7e0000_007e03ff_u64 >> ((b as u64) - 48) & 1 == 1
 }
 
-// A digit ends in its value, a letter in its value less 9.
-fn hex_value(b: u8) -> u32
-    requires { is_hex b ≡ true }
+#[tactic(auto, unfolding(crate::specs::Color::hex_value))]
+fn hex_value(b: u8) -> u8
     ensures { result ≡ hex_value b }
 {
-    let n = b as u32;
-    n % 16 + 9 * (n / 64)
-}
-
-// The number with one hex digit more, of more than eight the last eight.
-fn shift_hex(value: u32, b: u8) -> u32
-    requires { is_hex b ≡ true }
-    ensures { result ≡ (value * 16 + hex_value b) % 0x100000000 }
-{
-    value % 0x10000000 * 16 + hex_value(b)
-}
-
-fn read_hex_digits(s: &[u8], c: Cursor) -> HexRun
-    ensures { HexAt s.now (drop c.at s.now) result }
-{
-    let mut k = c;
-    let mut value: u32 = 0;
-    let mut count: usize = 0;
-    while is_hex(text::peek(s, k)) {
-        value = shift_hex(value, text::peek(s, k));
-        count += 1;
-        k = text::step(s, k);
-    }
-    HexRun {
-        value: value,
-        count: count,
-        next: k,
+    match b {
+        b'0'..=b'9' => b - b'0',
+        b'A'..=b'F' => b - b'A' + 10,
+        b'a'..=b'f' => b - b'a' + 10,
+        _ => 0,
     }
 }
 
-fn from_rgba(n: u32) -> Color
-    ensures { result ≡ from_rgba n }
+// The channel of one hex digit, doubled.
+#[tactic(auto, using(crate::proofs::Hex::hex_laws))]
+fn short(digit: u8) -> u8
+    ensures { result ≡ 17 * hex_value digit }
 {
-    Color {
-        red: (n / 0x1000000) as u8,
-        green: (n / 0x10000 % 256) as u8,
-        blue: (n / 0x100 % 256) as u8,
-        alpha: (n % 256) as u8,
+    17 * hex_value(digit)
+}
+
+// The channel of two.
+#[tactic(auto, using(crate::proofs::Hex::hex_laws))]
+fn long(high: u8, low: u8) -> u8
+    ensures { result ≡ 16 * hex_value high + hex_value low }
+{
+    16 * hex_value(high) + hex_value(low)
+}
+
+// The color of 3, 4, 6 or 8 hex digits.
+#[tactic(auto, unfolding(crate::specs::Color::hex_color))]
+fn hex_color(digits: &[u8]) -> Option<Color>
+    ensures { view_whole result ≡ hex_color (length digits.now) digits.now [] }
+{
+    match digits {
+        [r, g, b] => Some(rgba(short(*r), short(*g), short(*b), 255)),
+        [r, g, b, a] => Some(rgba(short(*r), short(*g), short(*b), short(*a))),
+        [r, r2, g, g2, b, b2] => Some(rgba(long(*r, *r2), long(*g, *g2), long(*b, *b2), 255)),
+        [r, r2, g, g2, b, b2, a, a2] => Some(rgba(
+            long(*r, *r2),
+            long(*g, *g2),
+            long(*b, *b2),
+            long(*a, *a2),
+        )),
+        _ => None,
     }
 }
 
-// The color of four hex digits, rgba.
-fn from_short(n: u32) -> Color
-    requires { n < 0x10000 }
-    ensures { result ≡ from_short n }
+fn read_hex(s: &[u8]) -> Option<(Color, &[u8])>
+    ensures { view result ≡ hex_of s.now }
 {
-    Color {
-        red: (n / 0x1000 * 17) as u8,
-        green: (n / 0x100 % 16 * 17) as u8,
-        blue: (n / 0x10 % 16 * 17) as u8,
-        alpha: (n % 16 * 17) as u8,
-    }
-}
-
-// 3, 4, 6 or 8 hex digits.
-fn read_hex(s: &[u8], c: Cursor) -> ColorRead
-    ensures { view_color s.now result ≡ hex_of (drop c.at s.now) }
-{
-    let h = read_hex_digits(s, c);
-    let n = h.count;
-    let k = h.next;
-    match n {
-        3 => ColorRead::Got(from_short(h.value * 16 + 15), k),
-        4 => ColorRead::Got(from_short(h.value), k),
-        6 => ColorRead::Got(from_rgba(h.value * 256 + 255), k),
-        8 => ColorRead::Got(from_rgba(h.value), k),
-        _ => ColorRead::Refused,
-    }
-}
-
-// A name, whose color is rrggbbaa.
-fn read_word(s: &[u8], c: Cursor, name: &[u8], rgba: u32) -> ColorRead
-    ensures { view_color s.now result ≡ row_of (name_row name.now rgba) (drop c.at s.now) }
-{
-    let Match::Past(k) = text::keyword(s, c, name) else {
-        return ColorRead::Refused;
-    };
-    ColorRead::Got(from_rgba(rgba), k)
-}
-
-// One of two names.
-fn read_either(
-    s: &[u8],
-    c: Cursor,
-    name: &[u8],
-    rgba: u32,
-    other: &[u8],
-    other_rgba: u32,
-) -> ColorRead
-    ensures { view_color s.now result ≡ named_of (name_row name.now rgba ∷ name_row other.now other_rgba ∷ []) (drop c.at s.now) }
-{
-    if let ColorRead::Got(v, k) = read_word(s, c, name, rgba) {
-        return ColorRead::Got(v, k);
-    }
-    read_word(s, c, other, other_rgba)
+    let (digits, rest) = text::run(s, |b| b.is_ascii_hexdigit());
+    let color = hex_color(digits)?;
+    Some((color, rest))
 }
 
 // The names, by their first letter.
-fn read_name(s: &[u8], c: Cursor) -> ColorRead
-    ensures { view_color s.now result ≡ named_of color_names (drop c.at s.now) }
+fn read_name(s: &[u8]) -> Option<(Color, &[u8])>
+    ensures { view result ≡ named_of color_names s.now }
 {
-    match text::lower_case(text::peek(s, c)) {
-        b'a' => read_word(s, c, b"aqua", 0x00ffff_ff),
-        b'b' => read_either(s, c, b"black", 0x000000_ff, b"blue", 0x0000ff_ff),
-        b'f' => read_word(s, c, b"fuchsia", 0xff00ff_ff),
-        b'g' => read_either(s, c, b"gray", 0x808080_ff, b"green", 0x008000_ff),
-        b'l' => read_word(s, c, b"lime", 0x00ff00_ff),
-        b'm' => read_word(s, c, b"maroon", 0x800000_ff),
-        b'n' => read_word(s, c, b"navy", 0x000080_ff),
-        b'o' => read_word(s, c, b"olive", 0x808000_ff),
-        b'p' => read_word(s, c, b"purple", 0x800080_ff),
-        b'r' => read_word(s, c, b"red", 0xff0000_ff),
-        b's' => read_word(s, c, b"silver", 0xc0c0c0_ff),
-        b't' => read_either(s, c, b"teal", 0x008080_ff, b"transparent", 0x000000_00),
-        b'w' => read_word(s, c, b"white", 0xffffff_ff),
-        b'y' => read_word(s, c, b"yellow", 0xffff00_ff),
-        _ => ColorRead::Refused,
+    let (letter, _) = text::first_letter(s);
+    match letter {
+        b'a' => word_for(s, b"aqua", rgba(0x00, 0xff, 0xff, 0xff)),
+        b'b' => {
+            let black = word_for(s, b"black", rgba(0x00, 0x00, 0x00, 0xff));
+            black.or_else(|| word_for(s, b"blue", rgba(0x00, 0x00, 0xff, 0xff)))
+        }
+        b'f' => word_for(s, b"fuchsia", rgba(0xff, 0x00, 0xff, 0xff)),
+        b'g' => {
+            let gray = word_for(s, b"gray", rgba(0x80, 0x80, 0x80, 0xff));
+            gray.or_else(|| word_for(s, b"green", rgba(0x00, 0x80, 0x00, 0xff)))
+        }
+        b'l' => word_for(s, b"lime", rgba(0x00, 0xff, 0x00, 0xff)),
+        b'm' => word_for(s, b"maroon", rgba(0x80, 0x00, 0x00, 0xff)),
+        b'n' => word_for(s, b"navy", rgba(0x00, 0x00, 0x80, 0xff)),
+        b'o' => word_for(s, b"olive", rgba(0x80, 0x80, 0x00, 0xff)),
+        b'p' => word_for(s, b"purple", rgba(0x80, 0x00, 0x80, 0xff)),
+        b'r' => word_for(s, b"red", rgba(0xff, 0x00, 0x00, 0xff)),
+        b's' => word_for(s, b"silver", rgba(0xc0, 0xc0, 0xc0, 0xff)),
+        b't' => {
+            let teal = word_for(s, b"teal", rgba(0x00, 0x80, 0x80, 0xff));
+            teal.or_else(|| word_for(s, b"transparent", rgba(0x00, 0x00, 0x00, 0x00)))
+        }
+        b'w' => word_for(s, b"white", rgba(0xff, 0xff, 0xff, 0xff)),
+        b'y' => word_for(s, b"yellow", rgba(0xff, 0xff, 0x00, 0xff)),
+        _ => None,
     }
 }
 
-pub fn read_color(s: &[u8], c: Cursor) -> ColorRead
-    ensures { view_color s.now result ≡ color_of (drop c.at s.now) }
+#[tactic(auto, unfolding(crate::specs::Color::color_of, text::specs::Text::peek_of, text::specs::Text::rest_of))]
+pub fn read_color(s: &[u8]) -> Option<(Color, &[u8])>
+    ensures { view result ≡ color_of s.now }
 {
-    if text::peek(s, c) == b'#' {
-        return read_hex(s, text::step(s, c));
+    match s {
+        [b'#', rest @ ..] => read_hex(rest),
+        _ => read_name(s),
     }
-    read_name(s, c)
 }

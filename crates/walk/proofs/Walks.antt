@@ -1,7 +1,7 @@
 -- Laws of walks: how one begins, what its byte is, and how it goes on.
 -- Assumes nothing.
-use Rattle.std.proofs.Common.{◌≡◌, ℕ, ◌+◌, ◌-◌, ◌*◌, ◌/◌, ◌%◌, ◌^◌, ◌<◌, ◌≤◌, sym, refl, ap, ◌∙◌, mul-le-mul_right, mod-lt, div-lt_iff_lt-mul, mul-le-mul, mul-le-mul_left, div-add-mod', div-mul-le_self, arith}
-use native.Mathlib.Nat.{le_of_mul-le-mul_left, lt_of_mul-lt-mul_left, div-eq_of_lt-le, lt-div-mul-add, mul-div-le, lt-mul-div-succ}
+use Rattle.std.proofs.Common.{◌≡◌, ℕ, ◌+◌, ◌-◌, ◌*◌, ◌/◌, ◌%◌, ◌^◌, ◌<◌, ◌≤◌, sym, refl, ap, ◌∙◌, mul-le-mul_right, mod-lt, mul-le-mul, mul-le-mul_left, div-add-mod', div-mul-le_self, arith}
+use native.Mathlib.Nat.{le_of_mul-le-mul_left, lt_of_mul-lt-mul_left, div-eq_of_lt-le, lt-div-mul-add, mul-div-le}
 use native.Mathlib.Decide.{dec_le}
 use Rattle.numbers.specs.Fraction.{nearest}
 use Rattle.color.specs.Lent.{mix, scale}
@@ -19,18 +19,6 @@ module _ (n d : ℕ) (p : 0 < d) where
       let e₃ : b * 134217728 / d * d + b * 134217728 % d ≡ b * 134217728 = div-add-mod' (b * 134217728) d in
       let l : b * 134217728 % d < d = mod-lt (b * 134217728) p in
       sym (div-eq_of_lt-le {k = n / d * scale + r / d * 134217728 + b * 134217728 / d} d (omega arith) (omega arith))
-
-  pub scaled_fits : n < 512 * d → (n % d < d) × (n / d < 512) × (n % d * 134217728 / d < 134217728) × (n % d * 134217728 % d < d) × (n % d * 134217728 % d * 134217728 / d < 134217728)
-  scaled_fits h =
-      let m : n % d < d = mod-lt n p in
-      let b : n % d * 134217728 % d < d = mod-lt (n % d * 134217728) p in
-      (m, (div-lt_iff_lt-mul p).1 h, (div-lt_iff_lt-mul p).1 (omega arith), b, (div-lt_iff_lt-mul p).1 (omega arith))
-
-  pub scaled-lt : n < 512 * d → n * scale / d < 512 * scale
-  scaled-lt h = (div-lt_iff_lt-mul p).1 (omega arith)
-
-  near : (d * (n / d) ≤ n) × (n < d * (n / d) + d)
-  near = (mul-div-le n d, omega (arith, lt-mul-div-succ n p))
 
 -- ---- the exact number
 module _ (p q g x : ℕ) (hp : p ≤ 65025) (hq : q ≤ 65025) (l : x ≤ g) where
@@ -54,10 +42,6 @@ ahead p q g x m l =
     let h : p * (g - x) ≡ p * (g - (x + m) + m) = ap (λ (z : ℕ). p * z) e in
     omega arith
 
--- a step's share of the gap
-pub share : (p g s : ℕ) → p ≤ 65025 → 0 < g → s ≤ g → 2 * p * s < 512 * (510 * g)
-share p g s hp some l = omega (arith, mul-le-mul_right s hp)
-
 -- what is at most 130,305 g, over 510 g
 pub short-fits : (g r n : ℕ) → r ≡ scale / (510 * g) → n ≤ 130305 * g → n * r < 256 * scale
 short-fits g r n e h =
@@ -65,31 +49,6 @@ short-fits g r n e h =
     omega (arith, m, mul-le-mul_right r h)
 
 module _ (p q g s x : ℕ) (i : InGap p q g s x) where
-  -- where a walk begins, f is above the exact number by 262,145 to 1,843,232
-  pub begin-is : (f u d : ℕ) → numerator_at p q g x * scale / (510 * g) + 262145 ≤ f → f ≤ numerator_at p q g x * scale / (510 * g) + 1843232
-      → u ≡ 2 * q * s * scale / (510 * g) → d ≡ 2 * p * s * scale / (510 * g) → Walks p q g s x 262144 (record { f = f; up = u; down = d })
-  begin-is f u d lo hi eu ed =
-      let some : 0 < 510 * g = omega (arith, i.gap.some) in
-      let a = near (numerator_at p q g x * scale) (510 * g) some in
-      let b = near (2 * q * s * scale) (510 * g) some in
-      let c = near (2 * p * s * scale) (510 * g) some in
-      let ml : 510 * g * (numerator_at p q g x * scale / (510 * g) + 262145) ≤ 510 * g * f = mul-le-mul_left (510 * g) lo in
-      let mh : 510 * g * f ≤ 510 * g * (numerator_at p q g x * scale / (510 * g) + 1843232) = mul-le-mul_left (510 * g) hi in
-      let mu : 510 * g * u ≡ 510 * g * (2 * q * s * scale / (510 * g)) = ap (λ (z : ℕ). 510 * g * z) eu in
-      let md : 510 * g * d ≡ 510 * g * (2 * p * s * scale / (510 * g)) = ap (λ (z : ℕ). 510 * g * z) ed in
-      record {
-        inside = i;
-        one = scale;
-        lack = 0;
-        whole = refl;
-        low = omega arith;
-        high = omega arith;
-        up-low = omega arith;
-        up-high = omega arith;
-        down-low = omega arith;
-        down-high = omega arith;
-      }
-
   -- in a short gap all is a multiple of r, one over 510 g, rounded down
   pub begin-short-is : (r f u d : ℕ) → g ≤ 16384 → r ≡ scale / (510 * g) → f ≡ numerator_at p q g x * r + (130305 * g + 262144)
       → u ≡ 2 * q * s * r → d ≡ 2 * p * s * r → Walks p q g s x 262144 (record { f = f; up = u; down = d })

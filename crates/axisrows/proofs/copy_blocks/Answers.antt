@@ -1,10 +1,9 @@
--- `axisrows::copy_blocks` meets its contract. Assumes nothing.
-use mathlib.Core.Path.{◌≡◌, sym, ap}
+-- `axisrows::copy_blocks` meets its contract. The blocks and the rest are the copies.
+use mathlib.Core.Path.{◌≡◌, ap}
 use Prim.Native.Nat.{ℕ, ◌+◌, ◌*◌, ◌/◌, ◌%◌, ◌≤◌}
 use native.Mathlib.Omega.{arith}
 use lib.ListN.{length}
 use lib.Seq.{length-take-le}
-use borrow.Author.Rules.{rules}
 use Rattle.axisrows.proofs.Copies.{parts, blocks_step}
 use Rattle.axisrows.proofs.copy_blocks.Goals as goal
 use Rattle.axisrows.proofs.copy_blocks.Goals.{Start}
@@ -19,34 +18,16 @@ room s =
     let m : length a.block.now * (a.n / a.k) ≡ a.m * a.k * (a.n / a.k) = ap (λ (j : ℕ). j * (a.n / a.k)) s.requires.1 in
     (omega (arith, p.0, m, s.requires.2), omega (arith, p.1, s.requires.1))
 
-pub nonzero_div-n : goal.nonzero_div-n
-nonzero_div-n c = search rules
-
 pub copy_times-requires : goal.copy_times-requires
 copy_times-requires c = omega (arith, room (goal.at.copy_times-requires c).Start)
 
-pub nonzero_div-o : goal.nonzero_div-o
-nonzero_div-o c = search rules
-
 pub overflow_mul-o : goal.overflow_mul-o
 overflow_mul-o c = omega (arith, room (goal.at.overflow_mul-o c).Start)
-
-pub nonzero_rem-rest : goal.nonzero_rem-rest
-nonzero_rem-rest c = search rules
-
-pub overflow_mul-rest : goal.overflow_mul-rest
-overflow_mul-rest c = omega (arith, room (goal.at.overflow_mul-rest c).Start)
-
-pub slice_bounds-copy_in-end : goal.slice_bounds-copy_in-end
-slice_bounds-copy_in-end c = sym (length-take-le _ _ (room (goal.at.slice_bounds-copy_in-end c).Start).1)
 
 pub copy_in-requires : goal.copy_in-requires
 copy_in-requires c =
     let r = room (goal.at.copy_in-requires c).Start in
     rw (length-take-le _ _ r.1) (omega (arith, r.0))
-
-pub shape_of-buf : goal.shape_of-buf
-shape_of-buf c = search rules
 
 pub returns : goal.returns
 returns c =

@@ -1,8 +1,5 @@
--- `axisrows::horizontal_with` meets its contract. Assumes nothing.
-use mathlib.Core.Path.{◌≡◌, sym, ap, ◌∙◌}
-use Prim.Native.Nat.{◌-◌}
-use lib.ListN.{length}
-use borrow.Author.Rules.{rules}
+-- `axisrows::horizontal_with` meets its contract: so many rows of the entries are the strip.
+use Rattle.std.proofs.Common.{◌≡◌, sym, ap, ◌∙◌, ◌-◌, length}
 use Rattle.picture.specs.Picture.{row, copies, strip, patched}
 use Rattle.line.specs.declared.Line.TheVariants as L
 use Rattle.rows.specs.Pixel.{ramp_pixel}
@@ -11,28 +8,6 @@ use Rattle.axisrows.proofs.Axis.{horizontal-strip}
 use Rattle.axisrows.proofs.horizontal_with.Goals as goal
 use Rattle.axisrows.proofs.horizontal_with.Goals.{After-fill_spaced}
 
-pub fill_spaced-requires : goal.fill_spaced-requires
-fill_spaced-requires c = search rules
-
-pub overflow_sub-z : goal.overflow_sub-z
-overflow_sub-z c = search rules
-
-pub rows_small-requires : goal.rows_small-requires
-rows_small-requires c = search rules
-
-pub overflow_sub-z-else-z-le-SMALL_SIDE : goal.overflow_sub-z-else-z-le-SMALL_SIDE
-overflow_sub-z-else-z-le-SMALL_SIDE c = search rules
-
-pub rows_large-requires : goal.rows_large-requires
-rows_large-requires c = search rules
-
-pub shape_of-t-then-z-le-SMALL_SIDE : goal.shape_of-t-then-z-le-SMALL_SIDE
-shape_of-t-then-z-le-SMALL_SIDE c = search rules
-
-pub shape_of-buf-then-z-le-SMALL_SIDE : goal.shape_of-buf-then-z-le-SMALL_SIDE
-shape_of-buf-then-z-le-SMALL_SIDE c = search rules
-
--- so many rows of the entries are the strip
 drawn : (c : After-fill_spaced)
     → patched c.args.buf.now 0 (copies (c.args.z.b - c.args.z.a) (row (by_column c.fill_spaced.new.t c.args.v.left c.args.z.w) c.args.z.w 0))
     ≡ patched c.args.buf.now 0 (strip (ramp_pixel c.args.ramp.now (L.Straight c.args.v) c.args.z.w c.args.z.h) c.args.z.w c.args.z.a c.args.z.b)
@@ -45,13 +20,7 @@ drawn c =
     (sym (horizontal-strip a.ramp.now a.v a.z.w a.z.h p.1.placed.sound f.new.t p.2 n f.ensures.0 a.z.a a.z.b p.1.rows.within))
 
 pub returns-then-z-le-SMALL_SIDE : goal.returns-then-z-le-SMALL_SIDE
-returns-then-z-le-SMALL_SIDE c = c.rows_small.ensures ∙ drawn (goal.at.returns-then-z-le-SMALL_SIDE c).After-fill_spaced
-
-pub shape_of-t-else-z-le-SMALL_SIDE : goal.shape_of-t-else-z-le-SMALL_SIDE
-shape_of-t-else-z-le-SMALL_SIDE c = search rules
-
-pub shape_of-buf-else-z-le-SMALL_SIDE : goal.shape_of-buf-else-z-le-SMALL_SIDE
-shape_of-buf-else-z-le-SMALL_SIDE c = search rules
+returns-then-z-le-SMALL_SIDE c = c.draw_rows.ensures ∙ drawn (goal.at.returns-then-z-le-SMALL_SIDE c).After-fill_spaced
 
 pub returns-else-z-le-SMALL_SIDE : goal.returns-else-z-le-SMALL_SIDE
-returns-else-z-le-SMALL_SIDE c = c.rows_large.ensures ∙ drawn (goal.at.returns-else-z-le-SMALL_SIDE c).After-fill_spaced
+returns-else-z-le-SMALL_SIDE c = c.draw_rows-else-z-le-SMALL_SIDE.ensures ∙ drawn (goal.at.returns-else-z-le-SMALL_SIDE c).After-fill_spaced

@@ -1,12 +1,7 @@
--- `checksums::crc32` meets its contract. The invariant: the bytes from i on take the register where all of them take the first one. Assumes nothing.
-use mathlib.Core.Path.{◌≡◌}
-use Prim.Native.Nat.{◌-◌, ◌≤◌}
-use lib.ListN.{length, drop}
+-- The invariant: the bytes from the place on take the register where all of them take the first one.
+use Rattle.std.proofs.Common.{◌≡◌, drop}
 use Rattle.checksums.specs.Crc.{register, swapped}
 use Rattle.checksums.proofs.crc32.Given as goal
 
-abbrev pub invariant-loop-i : goal.invariant-loop-i
-invariant-loop-i l = (register l.r (drop l.i l.s) ≡ register (swapped l.c) l.s) × (l.i ≤ length l.s)
-
-abbrev pub decreases-loop-i : goal.decreases-loop-i
-decreases-loop-i l = length l.s - l.i
+abbrev pub invariant-loop-b : goal.invariant-loop-b
+invariant-loop-b l = register l.r (drop l.b-index l.s) ≡ register (swapped l.c) l.s

@@ -5,7 +5,6 @@ use lib.ListN.{length}
 use Rattle.ramp.specs.Ramp.{Entries, color_in}
 use Rattle.line.specs.Circle.{circle_rule}
 use Rattle.line.specs.Represented.{center_in}
-use borrow.Author.Rules.{rules}
 use Rattle.circle.proofs.draw_next.Goals as goal
 
 pub table_of-t-requires : goal.table_of-t-requires
@@ -29,27 +28,9 @@ pub draw_known-requires : goal.draw_known-requires
 draw_known-requires c =
     ((c.next_row-found.ensures c.if-found.true).1, omega (arith, c.requires.3), c.requires.5)
 
-pub shape_of-before-then-found : goal.shape_of-before-then-found
-shape_of-before-then-found c = search rules
-
-pub shape_of-buf-then-found : goal.shape_of-buf-then-found
-shape_of-buf-then-found c = search rules
-
 pub returns-then-found : goal.returns-then-found
 returns-then-found c =
     let a = c.args in
     let t : Entries (color_in a.ramp.now) c.base_of-base.result c.table_of-t.result.now = rw (c.table_of-t.ensures, c.base_of-base.ensures) c.requires.0.ramp.table in
     let k = (c.next_row-found.ensures c.if-found.true).0 in
     (c.draw_known.ensures (color_in a.ramp.now) (circle_rule (center_in a.c)) a.j t k.at, k)
-
-pub draw_row-requires : goal.draw_row-requires
-draw_row-requires c = search rules
-
-pub shape_of-before : goal.shape_of-before
-shape_of-before c = search rules
-
-pub shape_of-buf : goal.shape_of-buf
-shape_of-buf c = search rules
-
-pub returns : goal.returns
-returns c = search rules

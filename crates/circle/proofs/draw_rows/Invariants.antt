@@ -1,7 +1,5 @@
 -- `circle::draw_rows` meets its contract. The invariant: the rows from a up to j stand from the buffer's start on. Assumes nothing.
 use mathlib.Core.Path.{◌≡◌}
-use Prim.Native.Nat.{◌-◌, ◌*◌, ◌≤◌}
-use lib.ListN.{length}
 use Rattle.line.specs.declared.Line.TheVariants as L
 use Rattle.picture.specs.Picture.{strip, patched}
 use Rattle.rows.specs.Pixel.{ramp_pixel}
@@ -9,9 +7,4 @@ use Rattle.circle.specs.Circular.{AboveInTurn}
 use Rattle.circle.proofs.draw_rows.Given as goal
 
 abbrev pub invariant-loop-j : goal.invariant-loop-j
-invariant-loop-j l = (l.buf ≡ patched l.initial.buf 0 (strip (ramp_pixel l.ramp (L.Circle l.c) l.z.w l.z.h) l.z.w l.z.a l.j)) × (l.o ≡ 4 * l.z.w * (l.j - l.z.a)) × (l.z.a ≤ l.j) × (l.j ≤ l.z.b) × (length l.buf ≡ length l.initial.buf)
-    × (length l.p ≡ length l.initial.p) × (length l.q ≡ length l.initial.q)
-    × AboveInTurn l.known l.c l.n l.j l.p l.q
-
-abbrev pub decreases-loop-j : goal.decreases-loop-j
-decreases-loop-j l = l.z.b - l.j
+invariant-loop-j l = (l.buf ≡ patched l.initial.buf 0 (strip (ramp_pixel l.ramp (L.Circle l.c) l.z.w l.z.h) l.z.w l.z.a l.j)) × AboveInTurn l.known l.c l.n l.j l.p l.q

@@ -1,10 +1,7 @@
 -- `circleroots::fill_low` meets its contract. Assumes nothing.
-use Rattle.std.proofs.Common.{◌≡◌, ◌-◌, ◌≤◌, length}
-use Rattle.circleroots.specs.Squares.{LowHalves}
+use Rattle.std.proofs.Common.{◌≡◌, ℕ, ◌%◌, ◌<◌, length, get_or}
+use Rattle.circleroots.specs.Squares.{square_of}
 use Rattle.circleroots.proofs.fill_low.Given as goal
 
 abbrev pub invariant-loop-i : goal.invariant-loop-i
-invariant-loop-i l = LowHalves l.x l.i l.low × (l.i ≤ l.w) × (length l.low ≡ length l.initial.low)
-
-abbrev pub decreases-loop-i : goal.decreases-loop-i
-decreases-loop-i l = l.w - l.i
+invariant-loop-i l = (length l.l-items ≡ l.w) × ((k : ℕ) → k < l.i → get_or l.l-items k 0 ≡ square_of l.c.x k % 4294967296)

@@ -6,20 +6,7 @@ use Rattle.color.specs.Stop.{Channel, red, green, blue, alpha}
 use Rattle.color.specs.Lent.{pairs_sum, stops_of}
 use Rattle.color.specs.Average.{equally_apart, average_of}
 use Rattle.color.proofs.Average.{index, average-lent}
-use borrow.Author.Rules.{rules}
 use Rattle.color.proofs.average_color.Goals as goal
-
-pub average_channel-requires : goal.average_channel-requires
-average_channel-requires c = search rules
-
-pub average_channel-requires-2 : goal.average_channel-requires-2
-average_channel-requires-2 c = search rules
-
-pub average_channel-requires-3 : goal.average_channel-requires-3
-average_channel-requires-3 c = search rules
-
-pub average_channel-requires-4 : goal.average_channel-requires-4
-average_channel-requires-4 c = search rules
 
 pub returns : goal.returns
 returns c =

@@ -2,28 +2,14 @@
 use mathlib.Core.Path.{◌≡◌, sym, ◌∙◌}
 use Prim.Native.Nat.{suc, ◌-◌}
 use native.Mathlib.Omega.{arith}
-use borrow.Author.Rules.{rules}
 use Rattle.color.proofs.Lent.{color-first, color-last, between, color-between}
 use Rattle.color.proofs.color_at.Goals as goal
-
-pub last_up_to-place-requires : goal.last_up_to-place-requires
-last_up_to-place-requires c = search rules
-
-pub at_stop-requires : goal.at_stop-requires
-at_stop-requires c = search rules
 
 pub returns-then-place-eq0 : goal.returns-then-place-eq0
 returns-then-place-eq0 c =
     c.at_stop.ensures
     ∙ color-first c.args.positions.now c.args.values.now c.requires c.args.at
     (sym c.if-place-eq0.true ∙ c.last_up_to-place.ensures)
-
-pub overflow_sub-place : goal.overflow_sub-place
-overflow_sub-place c = search rules
-
-pub at_stop-requires-then-place-positions : goal.at_stop-requires-then-place-positions
-at_stop-requires-then-place-positions c =
-    (omega (arith, c.if-place-eq0.false, c.requires.four), c.requires.small)
 
 pub returns-then-place-positions : goal.returns-then-place-positions
 returns-then-place-positions c =
@@ -32,9 +18,6 @@ returns-then-place-positions c =
     c.at_stop-then-place-positions.ensures
     ∙ color-last c.args.positions.now c.args.values.now c.requires c.args.at (place - 1)
     (e ∙ c.last_up_to-place.ensures) (e ∙ c.if-place-positions.true)
-
-pub overflow_sub-place-2 : goal.overflow_sub-place-2
-overflow_sub-place-2 c = search rules
 
 pub between-requires : goal.between-requires
 between-requires c =

@@ -1,5 +1,5 @@
 -- `color::store_values` meets its contract. The invariant: the values of the first i stops stand from `at` on. Assumes nothing.
-use mathlib.Core.Path.{◌≡◌, refl, sym, ap, ◌∙◌}
+use mathlib.Core.Path.{◌≡◌, sym, ap, ◌∙◌}
 use mathlib.Core.List.{List, []}
 use Prim.Native.Nat.{ℕ, ◌+◌, ◌*◌}
 use native.Mathlib.Omega.{arith}
@@ -16,33 +16,9 @@ use Rattle.color.proofs.Numbers.{values-more, length-values}
 use Rattle.color.proofs.Types.{placed-bytes}
 use Rattle.color.proofs.store_values.Goals as goal
 
-pub overflow_cast-n : goal.overflow_cast-n
-overflow_cast-n c = search rules
-
 pub loop-i-init : goal.loop-i-init
 unfolding values_of
-loop-i-init c = (patch-none c.args.words.now c.args.at, omega arith, refl)
-
-pub offset_bounds-p-i : goal.offset_bounds-p-i
-offset_bounds-p-i c = search rules
-
-pub bounds-p-i : goal.bounds-p-i
-bounds-p-i c = search rules
-
-pub overflow_mul-i : goal.overflow_mul-i
-overflow_mul-i c = search rules
-
-pub overflow_add-at : goal.overflow_add-at
-overflow_add-at c = search rules
-
-pub store_color-requires : goal.store_color-requires
-store_color-requires c = search rules
-
-pub overflow_add-i : goal.overflow_add-i
-overflow_add-i c = search rules
-
-pub loop-i-smaller : goal.loop-i-smaller
-loop-i-smaller c = search rules
+loop-i-init c = patch-none c.args.words.now c.args.at
 
 pub loop-i-preserved : goal.loop-i-preserved
 loop-i-preserved c =
@@ -51,18 +27,12 @@ loop-i-preserved c =
     let n : length c.args.p.stops ≡ 16 = search (unmapped, rules) in
     let w : List ℕ = a.words.now in
     let ss : List PlacedStop = a.p.stops in
-    let m : length (values_of (take l.i ss)) ≡ 4 * l.i = length-values (take l.i ss) ∙ ap (λ (k : ℕ). 4 * k) (length-take-le l.i ss (omega arith)) in (
-      patch-step w (values_of (take l.i ss)) (four_of (get_or ss l.i blank_placed).color []) l.words _ a.at (a.at + 4 * l.i) (omega arith) (omega arith) l.invariant.0 c.store_color.ensures
-          ∙ ap (patched w a.at) (sym (values-more ss l.i (omega arith))),
-      omega arith,
-      search rules,
-    )
-
-pub shape_of-words : goal.shape_of-words
-shape_of-words c = search rules
+    let m : length (values_of (take l.i ss)) ≡ 4 * l.i = length-values (take l.i ss) ∙ ap (λ (k : ℕ). 4 * k) (length-take-le l.i ss (omega arith)) in
+    patch-step w (values_of (take l.i ss)) (four_of (get_or ss l.i blank_placed).color []) l.words _ a.at (a.at + 4 * l.i) (omega arith) (omega arith) l.invariant c.store_color.ensures
+    ∙ ap (patched w a.at) (sym (values-more ss l.i (omega arith)))
 
 pub returns : goal.returns
 returns c =
     let l = c.loop-i in
     let e : c.args.p.count ≡ l.i = omega arith in
-    (rw e l.invariant.0, placed-bytes c.args.p _ c.well_formed.1.1.0)
+    (rw e l.invariant, placed-bytes c.args.p _ c.well_formed.1.1.0)

@@ -19,36 +19,6 @@ use Rattle.drawing.proofs.Accepted.{same-picture}
 use borrow.Author.Rules.{rules}
 use Rattle.drawing.proofs.draw_placed.Goals as goal
 
-pub no_ramp-stops-requires : goal.no_ramp-stops-requires
-no_ramp-stops-requires c = search rules
-
-pub slice_bounds-set_stops-end : goal.slice_bounds-set_stops-end
-slice_bounds-set_stops-end c = search rules
-
-pub set_stops-requires : goal.set_stops-requires
-set_stops-requires c = search rules
-
-pub slice_bounds-draw-end : goal.slice_bounds-draw-end
-slice_bounds-draw-end c = search rules
-
-pub draw-requires : goal.draw-requires
-draw-requires c = search rules
-
-pub overflow_mul-z : goal.overflow_mul-z
-overflow_mul-z c = search rules
-
-pub overflow_sub-z : goal.overflow_sub-z
-overflow_sub-z c = search rules
-
-pub overflow_mul-z-2 : goal.overflow_mul-z-2
-overflow_mul-z-2 c = search rules
-
-pub clear_from-requires : goal.clear_from-requires
-clear_from-requires c = search rules
-
-pub shape_of-buf : goal.shape_of-buf
-shape_of-buf c = search rules
-
 pub returns : goal.returns
 returns c =
     let a = c.args in

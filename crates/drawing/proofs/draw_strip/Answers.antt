@@ -14,19 +14,10 @@ placed_ready c =
     let full : length c.args.g.stops ≡ 16 = search (unmapped, rules) in
     subst Ready (sym c.place_in_box-p.ensures) (ready _ (placed-accepted c.args.g c.args.z.w c.args.z.h c.requires.0 c.requires.1 full))
 
-pub line_of-l-requires : goal.line_of-l-requires
-line_of-l-requires c = search rules
-
-pub place_in_box-p-requires : goal.place_in_box-p-requires
-place_in_box-p-requires c = search rules
-
 pub draw_placed-requires : goal.draw_placed-requires
 draw_placed-requires c =
     let r : Ready c.place_in_box-p.result = placed_ready (goal.at.draw_placed-requires c).After-place_in_box-p in
     (record { box = c.requires.0; sound = c.line_of-l.ensures.sound }, r.lendable, r.two, c.requires.2)
-
-pub shape_of-buf : goal.shape_of-buf
-shape_of-buf c = search rules
 
 pub returns : goal.returns
 returns c = painted_same c.line_of-l.ensures.is (ap placed_of c.place_in_box-p.ensures ∙ listed-is _) c.draw_placed.ensures

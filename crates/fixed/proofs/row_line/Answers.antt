@@ -1,5 +1,5 @@
 -- `fixed::row_line` meets its contract. Assumes nothing.
-use Rattle.std.proofs.Common.{◌≡◌, ℕ, ◌+◌, ◌*◌, ◌<◌, refl, arith, rules}
+use Rattle.std.proofs.Common.{◌≡◌, ℕ, ◌+◌, ◌*◌, ◌<◌, refl, arith}
 use Rattle.line.specs.Represented.{odd_of}
 use Rattle.fixed.proofs.Places.{row_fits, step_fits, goes-forth, goes_back}
 use Rattle.fixed.proofs.row_line.Goals as goal
@@ -11,14 +11,8 @@ fits c a b e f =
     let g = c.args in
     rw (e, f) (row_fits g.s g.v g.w g.h g.j c.requires.1 c.requires.0 c.requires.2 0 c.requires.0.some-width)
 
-pub odd-requires : goal.odd-requires
-odd-requires c = search rules
-
 pub overflow_mul-first : goal.overflow_mul-first
 overflow_mul-first c = omega (arith, fits c.before.before _ _ c.odd.ensures refl)
-
-pub odd-requires-2 : goal.odd-requires-2
-odd-requires-2 c = search rules
 
 pub overflow_mul-first-2 : goal.overflow_mul-first-2
 overflow_mul-first-2 c = omega (arith, fits c.before.before.before.before _ _ c.odd.ensures c.odd-2.ensures)

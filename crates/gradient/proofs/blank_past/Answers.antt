@@ -1,53 +1,19 @@
--- `gradient::blank_past` meets its contract. The loop's invariant: what is left of the question is the question.
--- Assumes nothing.
-use mathlib.Core.Path.{◌≡◌, refl, sym, ◌∙◌}
-use native.Mathlib.Omega.{arith}
-use lib.ListN.{length}
-use borrow.Author.Rules.{rules}
-use borrow.Author.Tests.{not-true, not-false}
-use Rattle.gradient.specs.Blank.{blank_stop, is_blank}
-use Rattle.gradient.specs.Check.{blank_past}
-use Rattle.gradient.proofs.Lists.{all_end, all-stop, all_go, unmapped}
+-- `gradient::blank_past` meets its contract: the chain asks every stop of the list. Assumes nothing.
+use mathlib.Core.Path.{◌∙◌}
+use Rattle.std.proofs.Common.{rules, tests}
+use Rattle.std.proofs.lemmas.Iterator.{YieldsList-from_slice}
+use Rattle.std.proofs.lemmas.Iterator.Adapters.{YieldsList-from_skip}
+use Rattle.std.proofs.lemmas.Iterator.Search.{all_from_yields_List}
+use Rattle.gradient.specs.Blank.{is_blank}
+use Rattle.gradient.specs.Check.{unused_of, blank_past}
+use Rattle.gradient.proofs.Lists.{all-listed}
 use Rattle.gradient.proofs.blank_past.Goals as goal
 
-pub overflow_cast-i : goal.overflow_cast-i
-overflow_cast-i c = search rules
-
-pub loop-i-init : goal.loop-i-init
-unfolding blank_past
-loop-i-init c = refl
-
-pub offset_bounds-g-i : goal.offset_bounds-g-i
-offset_bounds-g-i c = search rules
-
-pub bounds-g-i : goal.bounds-g-i
-bounds-g-i c = search rules
-
-pub is_blank-requires : goal.is_blank-requires
-is_blank-requires c = search rules
-
-pub returns-then-not-is_blank : goal.returns-then-not-is_blank
-returns-then-not-is_blank c =
-    let xs = c.args.g.stops in
-    let full : length xs ≡ 16 = search (unmapped, rules) in
-    all-stop is_blank xs _ blank_stop (omega arith) (sym c.is_blank.ensures ∙ not-true _ c.if-not-is_blank.true-raw)
-    ∙ c.loop-i.invariant
-
-pub overflow_add-i : goal.overflow_add-i
-overflow_add-i c = search rules
-
-pub loop-i-smaller : goal.loop-i-smaller
-loop-i-smaller c = search rules
-
-pub loop-i-preserved : goal.loop-i-preserved
-loop-i-preserved c =
-    let xs = c.args.g.stops in
-    let full : length xs ≡ 16 = search (unmapped, rules) in
-    all_go is_blank xs _ blank_stop (omega arith) (sym c.is_blank.ensures ∙ not-false _ c.if-not-is_blank.false-raw)
-    ∙ c.loop-i.invariant
-
 pub returns : goal.returns
+unfolding blank_past
 returns c =
-    let xs = c.args.g.stops in
-    let full : length xs ≡ 16 = search (unmapped, rules) in
-    all_end is_blank xs c.loop-i.i (omega arith) ∙ c.loop-i.invariant
+    let n = c.args.g.count in
+    all_from_yields_List is_blank _ _ _ c.all.ensures.ran
+    (YieldsList-from_skip n (YieldsList-from_slice c.args.g.stops cc) cc)
+    (λ x b q k. search (rules, tests))
+    ∙ all-listed is_blank (unused_of c.args.g)

@@ -2,10 +2,9 @@
 use mathlib.Core.Path.{◌≡◌, refl, sym, ap, ◌∙◌}
 use Prim.Native.Nat.{ℕ, ◌+◌, ◌-◌, ◌/◌, ◌%◌}
 use native.Mathlib.Omega.{arith}
-use borrow.Author.Rules.{rules}
 use lib.IntN.{pos, neg_ℤ, neg_ℤ-neg_ℤ}
 use Rattle.numbers.specs.Biased.{biased}
-use Rattle.numbers.proofs.Signed.{small_same, biased-high}
+use Rattle.numbers.proofs.Signed.{small_same}
 use Rattle.sine.specs.Sines.{sine_of}
 use Rattle.line.specs.Vector.{vector, quarters}
 use Rattle.line.proofs.Vectors.{quarters-is, angle-in}
@@ -18,24 +17,6 @@ is-biased c = c.biased.ensures ∙ ap biased (small_same c.args.a c.requires)
 -- what is left of the angle after whole turns, as the code finds it
 turned : (c : After-biased) → quarters c.args.a ≡ (c.biased.result + 285568) % 360000 / 250
 turned c = quarters-is c.args.a c.requires ∙ ap (λ (n : ℕ). (n + 285568) % 360000 / 250) (sym (is-biased c))
-
-pub biased-requires : goal.biased-requires
-biased-requires c = search rules
-
-pub overflow_add-q : goal.overflow_add-q
-overflow_add-q c = omega (arith, is-biased c, biased-high c.args.a c.requires)
-
-pub overflow_cast-r : goal.overflow_cast-r
-overflow_cast-r c = search rules
-
-pub sine-near-requires : goal.sine-near-requires
-sine-near-requires c = search rules
-
-pub overflow_sub-r : goal.overflow_sub-r
-overflow_sub-r c = search rules
-
-pub sine-far-requires : goal.sine-far-requires
-sine-far-requires c = search rules
 
 pub returns-in-0 : goal.returns-in-0
 returns-in-0 c =

@@ -3,14 +3,7 @@ use mathlib.Core.Path.{ap₂}
 use lib.IntN.{ℤ}
 use Rattle.line.proofs.Circles.{biased-below}
 use Rattle.line.proofs.Bounds.{coordinate-le}
-use borrow.Author.Rules.{rules}
 use Rattle.line.proofs.circle_center.Goals as goal
-
-pub coordinate_units-requires : goal.coordinate_units-requires
-coordinate_units-requires c = search rules
-
-pub coordinate_units-requires-2 : goal.coordinate_units-requires-2
-coordinate_units-requires-2 c = search rules
 
 pub returns : goal.returns
 returns c =

@@ -3,20 +3,10 @@ use mathlib.Core.Path.{ap, ap₂, ◌∙◌}
 use Prim.Native.Nat.{ℕ, ◌+◌, ◌*◌}
 use Rattle.root.specs.Root.{root_of}
 use Rattle.line.proofs.Circles.{corner-is}
-use borrow.Author.Rules.{rules}
 use Rattle.line.proofs.corner_radius.Goals as goal
-
-pub edge-requires : goal.edge-requires
-edge-requires c = search rules
-
-pub edge-requires-2 : goal.edge-requires-2
-edge-requires-2 c = search rules
-
-pub hypotenuse-requires : goal.hypotenuse-requires
-hypotenuse-requires c = search rules
 
 pub returns : goal.returns
 returns c =
     c.hypotenuse.ensures
     ∙ ap₂ (λ (m n : ℕ). root_of 1 (m * m + n * n)) c.edge.ensures.0 c.edge-2.ensures.0
-    ∙ ap (root_of 1) (corner-is c.args.far _ _ _ _)
+    ∙ ap (root_of 1) (corner-is c.args.choice _ _ _ _)

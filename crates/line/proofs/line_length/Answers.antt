@@ -9,7 +9,6 @@ use Rattle.line.specs.Line.{length_of}
 use Rattle.line.specs.Bounds.{longest}
 use Rattle.gradient.proofs.Laws.{linear-range, circle-range}
 use Rattle.line.proofs.Bounds.{bounds}
-use borrow.Author.Rules.{rules}
 use Rattle.line.proofs.line_length.Goals as goal
 use Rattle.line.proofs.line_length.Goals.{After-radius, After-vector_length, Start}
 
@@ -29,21 +28,12 @@ circle-is c =
     let z = c.in-Circle.z in
     rw c.in-Circle.is (c.radius.ensures ∙ ap (radius_of z g.w g.h) c.circle_center.ensures.is)
 
-pub enum_known-s : goal.enum_known-s
-enum_known-s c = search rules
-
 pub direction_vector-requires : goal.direction_vector-requires
 direction_vector-requires c =
     (c.requires.0, linear-range _ (sym (ap shape_in c.in-Linear.is) ∙ c.requires.1))
 
-pub vector_length-requires : goal.vector_length-requires
-vector_length-requires c = (c.requires.0, c.direction_vector.ensures.bounded)
-
 pub overflow_cast-result : goal.overflow_cast-result
 overflow_cast-result c = omega (arith, linear-is c, short c.before.before.before)
-
-pub enum_known-s-in-Circle-1 : goal.enum_known-s-in-Circle-1
-enum_known-s-in-Circle-1 c = search rules
 
 pub circle_center-requires : goal.circle_center-requires
 circle_center-requires c =

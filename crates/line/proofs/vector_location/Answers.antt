@@ -4,7 +4,6 @@ use native.Mathlib.Omega.{arith}
 use Rattle.line.specs.Location.{location_by}
 use Rattle.line.specs.Represented.{odd_of}
 use Rattle.line.proofs.Lines.{square-is, odd-below, weighted-le}
-use borrow.Author.Rules.{rules}
 use Rattle.line.proofs.vector_location.Goals as goal
 use Rattle.line.proofs.vector_location.Goals.{After-weighted-s, Start}
 
@@ -22,20 +21,6 @@ small c =
     let a = c.odd-a in
     let b = c.odd-b in
     omega (arith, c.weighted-s.ensures, weighted-le 4095 a.result b.result v.x v.y (omega (arith, a.ensures)) (omega (arith, b.ensures)), c.requires.1.sum)
-
-pub odd-a-requires : goal.odd-a-requires
-odd-a-requires c = search rules
-
-pub odd-b-requires : goal.odd-b-requires
-odd-b-requires c = search rules
-
-pub weighted-s-requires : goal.weighted-s-requires
-weighted-s-requires c =
-    let p = short c.before.before in
-    omega (arith, c.odd-a.ensures, c.odd-b.ensures)
-
-pub overflow_mul-s : goal.overflow_mul-s
-overflow_mul-s c = omega (arith, small c)
 
 pub on_line-requires : goal.on_line-requires
 on_line-requires c = (omega (arith, small c), c.requires.1)

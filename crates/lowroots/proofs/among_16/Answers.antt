@@ -1,22 +1,7 @@
 -- `lowroots::among_16` meets its contract. Assumes nothing.
-use Rattle.std.proofs.Common.{arith, rules}
+use Rattle.std.proofs.Common.{arith}
 use Rattle.lowroots.proofs.Found.{found}
 use Rattle.lowroots.proofs.among_16.Goals as goal
-
-pub begin-requires : goal.begin-requires
-begin-requires c = search rules
-
-pub halved-requires : goal.halved-requires
-halved-requires c = search rules
-
-pub halved-s-requires : goal.halved-s-requires
-halved-s-requires c = search rules
-
-pub halved-requires-2 : goal.halved-requires-2
-halved-requires-2 c = search rules
-
-pub halved-requires-3 : goal.halved-requires-3
-halved-requires-3 c = search rules
 
 pub returns : goal.returns
 returns c = λ z is small lo hi.

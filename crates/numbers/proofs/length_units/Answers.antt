@@ -6,7 +6,6 @@ use Rattle.numbers.specs.Biased.{biased}
 use Rattle.numbers.specs.Units.{rounded}
 use Rattle.numbers.proofs.Signed.{small_same}
 use Rattle.numbers.proofs.Units.{length_high, length-is}
-use borrow.Author.Rules.{rules}
 use Rattle.numbers.proofs.length_units.Goals as goal
 use Rattle.numbers.proofs.length_units.Goals.{After-biased, After-round-n}
 
@@ -15,21 +14,6 @@ is-biased c = c.biased.ensures ∙ ap biased (small_same c.args.t (omega (arith,
 
 is-rounded : (c : After-round-n) → c.round-n.result ≡ rounded (biased c.args.t * 64 + 352) 1000
 is-rounded c = c.round-n.ensures ∙ ap (λ (n : ℕ). rounded (n * 64 + 352) 1000) (is-biased c.before)
-
-pub biased-requires : goal.biased-requires
-biased-requires c = rw (small_same c.args.t (omega arith)) (omega arith)
-
-pub overflow_cast-biased : goal.overflow_cast-biased
-overflow_cast-biased c = search rules
-
-pub overflow_mul-biased : goal.overflow_mul-biased
-overflow_mul-biased c = search rules
-
-pub overflow_add-biased : goal.overflow_add-biased
-overflow_add-biased c = search rules
-
-pub round-n-requires : goal.round-n-requires
-round-n-requires c = search rules
 
 pub overflow_add-result : goal.overflow_add-result
 overflow_add-result c = omega (arith, is-rounded c, length_high c.args.t c.requires)

@@ -1,12 +1,8 @@
--- `picture::copy_row` meets its contract. The invariant: the first i bytes stand at both places. Assumes nothing.
-use mathlib.Core.Path.{◌≡◌}
-use Prim.Native.Nat.{◌-◌, ◌≤◌}
-use lib.ListN.{length, take, drop}
+-- `picture::copy_row` meets its contract. The loop's invariant: the bytes of the first blocks are copied.
+-- Assumes nothing.
+use Rattle.std.proofs.Common.{◌≡◌, ◌*◌, take, drop, min}
 use Rattle.picture.specs.Picture.{patched}
 use Rattle.picture.proofs.copy_row.Given as goal
 
-abbrev pub invariant-loop-i : goal.invariant-loop-i
-invariant-loop-i l = (l.buf ≡ patched l.initial.buf l.to (take l.i (drop l.from l.initial.buf))) × (l.i ≤ l.n) × (length l.buf ≡ length l.initial.buf)
-
-abbrev pub decreases-loop-i : goal.decreases-loop-i
-decreases-loop-i l = l.n - l.i
+abbrev pub invariant-loop-block : goal.invariant-loop-block
+invariant-loop-block l = l.buf ≡ patched l.fn.buf l.to (take (min (2048 * l.block) l.n) (drop l.from l.fn.buf))

@@ -2,7 +2,10 @@
 use mathlib.Core.Path.{sym, ap, ◌∙◌, subst}
 use mathlib.Core.List.{map}
 use native.Mathlib.Omega.{arith}
+use Prim.Native.Nat.{ℕ}
 use lib.IntN.{pos}
+use lib.ListN.{take}
+use Rattle.numbers.specs.Biased.{unbiased}
 use borrow.Author.Rules.{rules}
 use Rattle.placing.specs.Represented.{spot, Ready}
 use Rattle.placing.specs.Fixup.{raised, spaced}
@@ -26,4 +29,4 @@ shape_of-ps c = search rules
 
 pub returns : goal.returns
 returns c =
-    c.space_stops.ensures ∙ ap spaced (c.raise_stops.ensures ∙ ap raised c.place_ends.ensures)
+    ap (λ (n : ℕ). map unbiased (take n c.space_stops.result)) (sym (c.raise_stops.auto.ps ∙ c.place_ends.auto.ps)) ∙ c.space_stops.ensures ∙ ap spaced (c.raise_stops.ensures ∙ ap raised c.place_ends.ensures)

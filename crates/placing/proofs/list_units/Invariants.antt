@@ -2,14 +2,10 @@
 -- Assumes nothing.
 use mathlib.Core.Path.{◌≡◌}
 use mathlib.Core.List.{map}
-use Prim.Native.Nat.{◌≤◌, ◌-◌}
 use lib.ListN.{length, take}
 use Rattle.placing.specs.Placed.{spots_of}
 use Rattle.placing.specs.Represented.{spot}
 use Rattle.placing.proofs.list_units.Given as goal
 
 abbrev pub invariant-loop-i : goal.invariant-loop-i
-invariant-loop-i l = (l.i ≤ l.n) × (length l.ps ≡ 16) × (map spot (take l.i l.ps) ≡ spots_of l.line (take l.i l.stops))
-
-abbrev pub decreases-loop-i : goal.decreases-loop-i
-decreases-loop-i l = l.n - l.i
+invariant-loop-i l = (length l.ps ≡ 16) × (map spot (take l.i l.ps) ≡ spots_of l.line (take l.i l.fn.stops))

@@ -11,9 +11,6 @@ bounds-ps-0 c = search rules
 pub or_at-requires : goal.or_at-requires
 or_at-requires c = search rules
 
-pub bounds-ps-0-2 : goal.bounds-ps-0-2
-bounds-ps-0-2 c = search rules
-
 pub overflow_sub-n : goal.overflow_sub-n
 overflow_sub-n c = search rules
 
@@ -31,9 +28,6 @@ or_at-requires-2 c = search rules
 
 pub offset_bounds-ps-n-2 : goal.offset_bounds-ps-n-2
 offset_bounds-ps-n-2 c = simp length-set (omega arith)
-
-pub bounds-ps-n-2 : goal.bounds-ps-n-2
-bounds-ps-n-2 c = simp length-set (omega arith)
 
 pub shape_of-ps : goal.shape_of-ps
 shape_of-ps c = search rules

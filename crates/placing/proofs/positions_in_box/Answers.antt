@@ -3,8 +3,8 @@ use mathlib.Core.Path.{◌≡◌, sym, ap, ◌∙◌}
 use mathlib.Core.List.{map}
 use Prim.Native.Nat.{ℕ, ◌≤◌}
 use native.Mathlib.Omega.{arith}
-use lib.ListN.{length, drop}
-use lib.Seq.{length-take-le, take_at}
+use lib.ListN.{length, take}
+use lib.Seq.{length-take-le}
 use borrow.Author.Rules.{rules}
 use Rattle.numbers.specs.Biased.{unbiased}
 use Rattle.gradient.specs.Check.{stops_of}
@@ -47,7 +47,7 @@ pub returns : goal.returns
 returns c =
     let a = c.args in
     let g = a.g in
-    ap (map unbiased) (take_at c.fix_up.new.ps (drop g.count c.list_units-ps.result) g.count (c.fix_up.auto.ps ∙ sym (slice_bounds-fix_up-end c.before.before)))
+    ap (λ (n : ℕ). map unbiased (take n c.fix_up.result)) (slice_bounds-fix_up-end c.before.before)
     ∙ c.fix_up.ensures
     ∙ ap (fixup c.line_length-line.result) c.list_units-ps.ensures
     ∙ ap (λ (n : ℕ). fixup n (spots_of n (stops_of g))) c.line_length-line.ensures

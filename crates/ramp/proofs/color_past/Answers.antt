@@ -6,38 +6,7 @@ use native.Mathlib.Omega.{arith}
 use lib.ListN.{length, get_or}
 use Rattle.ramp.specs.Ramp.{table_in, base_in, period_in, color_in}
 use Rattle.ramp.proofs.Heads.{color-again}
-use borrow.Author.Rules.{rules}
 use Rattle.ramp.proofs.color_past.Goals as goal
-
-pub is_repeated-requires : goal.is_repeated-requires
-is_repeated-requires c = search rules
-
-pub base_of-requires : goal.base_of-requires
-base_of-requires c = search rules
-
-pub overflow_cast-k : goal.overflow_cast-k
-overflow_cast-k c = search rules
-
-pub overflow_sub-k : goal.overflow_sub-k
-overflow_sub-k c = search rules
-
-pub period-requires : goal.period-requires
-period-requires c = (c.requires.0.stops, sym c.is_repeated.ensures ∙ c.if-is_repeated.true)
-
-pub overflow_cast-k-then-is_repeated : goal.overflow_cast-k-then-is_repeated
-overflow_cast-k-then-is_repeated c = search rules
-
-pub nonzero_rem-k : goal.nonzero_rem-k
-nonzero_rem-k c = search rules
-
-pub table_of-t-requires : goal.table_of-t-requires
-table_of-t-requires c = search rules
-
-pub offset_bounds-t-k : goal.offset_bounds-t-k
-offset_bounds-t-k c = search rules
-
-pub bounds-t-k : goal.bounds-t-k
-bounds-t-k c = search rules
 
 pub returns-then-k-t : goal.returns-then-k-t
 returns-then-k-t c =
@@ -49,9 +18,3 @@ returns-then-k-t c =
     let same : k ≡ (a.s - base_in r) % period_in r = rw (c.base_of.ensures, p.ensures.0) in
     ap (λ (t : List ℕ). get_or t k 0) c.table_of-t.ensures ∙ c.requires.0.table k h ∙ ap (λ (n : ℕ). color_in r (base_in r + n)) same
     ∙ color-again r c.requires.0.stops (sym c.is_repeated.ensures ∙ c.if-is_repeated.true) (base_in r) a.s c.requires.2 (omega (arith, p.ensures))
-
-pub color_by_stops-requires : goal.color_by_stops-requires
-color_by_stops-requires c = search rules
-
-pub returns : goal.returns
-returns c = search rules

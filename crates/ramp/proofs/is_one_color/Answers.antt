@@ -2,11 +2,7 @@
 use borrow.Author.Tests.{eqb-true}
 use mathlib.Core.Path.{sym, ◌∙◌}
 use Rattle.ramp.proofs.Heads.{one-color}
-use borrow.Author.Rules.{rules}
 use Rattle.ramp.proofs.is_one_color.Goals as goal
-
-pub count-requires : goal.count-requires
-count-requires c = search rules
 
 pub returns : goal.returns
 returns c = λ e. one-color c.args.ramp.now c.requires (sym c.count.ensures.0 ∙ eqb-true c.count.result 1 e)

@@ -1,10 +1,8 @@
 -- `ramp::period` meets its contract. Assumes nothing.
-use mathlib.Core.Path.{refl}
 use Prim.Native.Nat.{◌<◌}
 use native.Mathlib.Omega.{arith}
 use lib.ListN.{length}
 use Rattle.repeats.specs.Repeats.{first_in, last_in}
-use borrow.Author.Rules.{rules}
 use Rattle.ramp.proofs.period.Goals as goal
 use Rattle.ramp.proofs.period.Goals.{After-positions-p}
 
@@ -14,14 +12,8 @@ some c = rw c.positions-p.ensures c.requires.0.lent.some
 rises : (c : After-positions-p) → first_in c.positions-p.result.now < last_in c.positions-p.result.now
 rises c = rw c.positions-p.ensures (c.requires.0.period c.requires.1).period
 
-pub positions-p-requires : goal.positions-p-requires
-positions-p-requires c = search rules
-
 pub overflow_sub-result : goal.overflow_sub-result
 overflow_sub-result c = omega (arith, some (goal.at.overflow_sub-result c).After-positions-p)
-
-pub offset_bounds-p-p : goal.offset_bounds-p-p
-offset_bounds-p-p c = search rules
 
 pub bounds-p-p : goal.bounds-p-p
 bounds-p-p c = omega (arith, some (goal.at.bounds-p-p c).After-positions-p)
@@ -31,6 +23,3 @@ bounds-p-0 c = some (goal.at.bounds-p-0 c).After-positions-p
 
 pub overflow_sub-result-2 : goal.overflow_sub-result-2
 overflow_sub-result-2 c = omega (arith, rises (goal.at.overflow_sub-result-2 c).After-positions-p)
-
-pub returns : goal.returns
-returns c = rw c.positions-p.ensures (refl, omega (arith, (c.requires.0.period c.requires.1).period))

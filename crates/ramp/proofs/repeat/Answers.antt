@@ -17,44 +17,14 @@ last-is : (c : After-count-n) → last_in (positions_in c.args.ramp.now) ≡ get
 last-is c =
     last-at c.args.ramp.now c.requires.1 (omega (arith, c.requires.0)) ∙ ap (λ (n : ℕ). get_or c.args.ramp.now (4 + (n - 1)) 0) (sym c.count-n.ensures.0)
 
-pub count-n-requires : goal.count-n-requires
-count-n-requires c = search rules
-
-pub bounds-ramp-4 : goal.bounds-ramp-4
-bounds-ramp-4 c = search rules
-
-pub overflow_sub-n : goal.overflow_sub-n
-overflow_sub-n c = search rules
-
-pub overflow_add-n : goal.overflow_add-n
-overflow_add-n c = search rules
-
-pub offset_bounds-ramp-n : goal.offset_bounds-ramp-n
-offset_bounds-ramp-n c = search rules
-
-pub bounds-ramp-n : goal.bounds-ramp-n
-bounds-ramp-n c = search rules
-
-pub bounds-ramp-2 : goal.bounds-ramp-2
-bounds-ramp-2 c = search rules
-
-pub shape_of-ramp-then-ramp-n : goal.shape_of-ramp-then-ramp-n
-shape_of-ramp-then-ramp-n c = search rules
-
 pub returns-then-ramp-n : goal.returns-then-ramp-n
 returns-then-ramp-n c = λ l h. made-repeated l c.args.ramp.now h (omega (arith, first-is (goal.at.returns-then-ramp-n c).Start, last-is (goal.at.returns-then-ramp-n c).After-count-n, c.if-ramp-n.true))
-
-pub values-requires : goal.values-requires
-values-requires c = search rules
 
 pub average_color-c-requires : goal.average_color-c-requires
 average_color-c-requires c =
     let p = c.requires.1 in
     let n = c.count-n.ensures in
     rw c.values.ensures (omega (arith, n.0, c.requires.0), n.1, omega (arith, n.0, p.lent.four, positions-length c.args.ramp.now p), p.lent.small)
-
-pub bounds-ramp-0 : goal.bounds-ramp-0
-bounds-ramp-0 c = search rules
 
 pub store_bytes-requires : goal.store_bytes-requires
 store_bytes-requires c = rw length-set (omega (arith, c.requires.1.head))

@@ -1,31 +1,20 @@
 -- `ramp::set_head` meets its contract. Assumes nothing.
-use mathlib.Core.Path.{◌≡◌, sym, ap, ◌∙◌}
-use mathlib.Core.List.{List}
-use Prim.Native.Nat.{ℕ}
-use native.Mathlib.Omega.{arith}
-use lib.ListN.{take, set, length-set}
-use lib.Seq.{length-take-le, take-set-lt}
-use Rattle.picture.proofs.Patches.{patch-here}
-use borrow.Author.Rules.{rules}
+use Rattle.std.proofs.Common.{◌≡◌, ℕ, List, ◌++◌, length, take, drop, set, ap, ◌∙◌, arith}
+use Rattle.std.proofs.Math.Seq.{take-append_seam}
+use Rattle.std.proofs.lemmas.List.{length-take-le}
+use lib.ListN.{length-set}
+use lib.Seq.{take-set-lt}
+use Rattle.repeats.proofs.Periods.{front_length}
 use Rattle.ramp.proofs.set_head.Goals as goal
-
-pub slice_bounds-store-end : goal.slice_bounds-store-end
-slice_bounds-store-end c = sym (length-take-le 84 c.args.stops.now c.requires.0)
-
-pub store-requires : goal.store-requires
-store-requires c = omega (arith, c.requires.1, length-take-le 84 c.args.stops.now c.requires.0)
-
-pub bounds-ramp-1 : goal.bounds-ramp-1
-bounds-ramp-1 c = search rules
-
-pub shape_of-ramp : goal.shape_of-ramp
-shape_of-ramp c = search rules
 
 pub returns : goal.returns
 returns c =
+    let t = c.args.ramp.now in
     let q = c.args.stops.now in
-    let x = c.store.new.ramp in
-    let e : take 84 x ≡ take 84 q = ap (take 84) c.store.ensures ∙ patch-here c.args.ramp.now (take 84 q) 0 84 (length-take-le 84 q c.requires.0) (omega arith) in (
-      take-set-lt 84 x 1 c.args.base (omega arith) ∙ ap (λ (l : List ℕ). set l 1 c.args.base) e,
-      simp length-set (omega arith),
+    let x = c.copy_from_slice.new.self in
+    let n : length x ≡ 84 = ap length c.copy_from_slice.ensures.after ∙ length-take-le 84 q c.requires.0 in
+    let e : take 84 (x ++ drop 84 t) ≡ x = rw n at (take-append_seam x (drop 84 t)) in
+    let o : length (x ++ drop 84 t) ≡ length t = front_length t x 84 n c.requires.1 in (
+      take-set-lt 84 (x ++ drop 84 t) 1 c.args.base (omega arith) ∙ ap (λ (l : List ℕ). set l 1 c.args.base) (e ∙ c.copy_from_slice.ensures.after),
+      simp length-set o,
     )

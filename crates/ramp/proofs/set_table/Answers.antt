@@ -3,26 +3,7 @@ use native.Mathlib.Omega.{arith}
 use lib.ListN.{length}
 use borrow.Rule.Slice.PartMut.{mid_len}
 use Rattle.ramp.proofs.Heads.{table-put}
-use borrow.Author.Rules.{rules}
 use Rattle.ramp.proofs.set_table.Goals as goal
-
-pub set_head-requires : goal.set_head-requires
-set_head-requires c = search rules
-
-pub slice_bounds-fill_spaced-count : goal.slice_bounds-fill_spaced-count
-slice_bounds-fill_spaced-count c = search rules
-
-pub slice_bounds-fill_spaced-start : goal.slice_bounds-fill_spaced-start
-slice_bounds-fill_spaced-start c = search rules
-
-pub slice_bounds-fill_spaced-end : goal.slice_bounds-fill_spaced-end
-slice_bounds-fill_spaced-end c = search rules
-
-pub fill_spaced-requires : goal.fill_spaced-requires
-fill_spaced-requires c = search rules
-
-pub shape_of-ramp : goal.shape_of-ramp
-shape_of-ramp c = search rules
 
 pub returns : goal.returns
 returns c =

@@ -23,9 +23,6 @@ many c =
 same : (c : Start) → length (set (set c.args.ramp.now 0 c.args.p.count) 2 0) ≡ length c.args.ramp.now
 same c = length-set (set c.args.ramp.now 0 c.args.p.count) 2 0 ∙ length-set c.args.ramp.now 0 c.args.p.count
 
-pub bounds-ramp-0 : goal.bounds-ramp-0
-bounds-ramp-0 c = search rules
-
 pub bounds-ramp-2 : goal.bounds-ramp-2
 bounds-ramp-2 c = simp length-set (omega arith)
 

@@ -1,13 +1,12 @@
 -- `reader::with_stops` meets its contract. Assumes nothing.
-use borrow.Author.Tests.{not-true, not-false}
-use borrow.Author.Rules.{rules}
+use Rattle.reader.proofs.Items.{stops-got, stops-none, no-items}
 use Rattle.reader.proofs.with_stops.Goals as goal
 
-pub no_draft-requires : goal.no_draft-requires
-no_draft-requires c = search rules
+pub returns-in_err-stops : goal.returns-in_err-stops
+returns-in_err-stops c = rw (c.from_residual.ensures, c.in_err-stops.was) (no-items c.args.shape c.args.repeating)
 
-pub returns-then-not-l : goal.returns-then-not-l
-returns-then-not-l c = rw (not-true c.args.l.found c.if-not-l.true) c.no_draft.ensures
+pub returns-in_err-list : goal.returns-in_err-list
+returns-in_err-list c = rw (c.from_residual-in_err-list.ensures, c.in_ok-stops.was) (stops-none c.args.shape c.args.repeating _ c.in_err-list.ensures)
 
 pub returns : goal.returns
-returns c = rw (not-false c.args.l.found c.if-not-l.false)
+returns c = rw c.in_ok-stops.was (stops-got c.args.shape c.args.repeating _ c.in_ok-list.ensures)

@@ -3,25 +3,12 @@ use Prim.Native.Nat.{ℕ, ◌-◌, ◌%◌, ◌<◌}
 use native.Mathlib.Nat.{mod-lt}
 use native.Mathlib.Omega.{arith}
 use borrow.Author.Tests.{le-leb, lt-leb}
-use borrow.Author.Rules.{rules}
 use Rattle.repeats.proofs.move_to.Goals as goal
 use Rattle.repeats.proofs.move_to.Goals.{Start}
 
 -- what is left by the period
 rest : (c : Start) (n : ℕ) → n % (c.args.last - c.args.first) < c.args.last - c.args.first
 rest c n = mod-lt n (omega (arith, c.requires))
-
-pub overflow_sub-p : goal.overflow_sub-p
-overflow_sub-p c = search rules
-
-pub overflow_cast-p : goal.overflow_cast-p
-overflow_cast-p c = search rules
-
-pub overflow_sub-result : goal.overflow_sub-result
-overflow_sub-result c = search rules
-
-pub nonzero_rem-result : goal.nonzero_rem-result
-nonzero_rem-result c = search rules
 
 pub overflow_cast-result-then-first-at : goal.overflow_cast-result-then-first-at
 overflow_cast-result-then-first-at c = omega (arith, rest c.before (c.args.at - c.args.first))
@@ -31,18 +18,6 @@ overflow_add-result c = omega (arith, rest c.before (c.args.at - c.args.first))
 
 pub returns-then-first-at : goal.returns-then-first-at
 returns-then-first-at c = (simp (le-leb _ _ c.if-first-at.true), omega arith, omega (arith, rest c.before (c.args.at - c.args.first)))
-
-pub overflow_sub-result-2 : goal.overflow_sub-result-2
-overflow_sub-result-2 c = search rules
-
-pub overflow_sub-result-3 : goal.overflow_sub-result-3
-overflow_sub-result-3 c = search rules
-
-pub overflow_sub-result-4 : goal.overflow_sub-result-4
-overflow_sub-result-4 c = search rules
-
-pub nonzero_rem-result-2 : goal.nonzero_rem-result-2
-nonzero_rem-result-2 c = search rules
 
 pub overflow_cast-result-3 : goal.overflow_cast-result-3
 overflow_cast-result-3 c = omega (arith, rest c.before (c.args.first - 1 - c.args.at))

@@ -1,16 +1,18 @@
 -- `replies::lower` meets its contract. Assumes nothing.
 use native.Mathlib.Omega.{arith}
-use Rattle.replies.proofs.Laws.{lowest-none, lowest-first, lowest-left, lowest-right}
+use Rattle.replies.proofs.Laws.{ok-done, refused-above, lowest-none, lowest-first, lowest-left, lowest-right}
 use Rattle.replies.proofs.lower.Goals as goal
 
-pub returns-then-a-eq-DONE : goal.returns-then-a-eq-DONE
-returns-then-a-eq-DONE c = lowest-none _ _ c.if-a-eq-DONE.true
+pub returns-then-is_ok : goal.returns-then-is_ok
+returns-then-is_ok c = lowest-none _ _ (ok-done _ c.if-is_ok.ensures.value)
 
-pub returns-then-b-eq-DONE : goal.returns-then-b-eq-DONE
-returns-then-b-eq-DONE c = lowest-first _ _ c.if-a-eq-DONE.false c.if-b-eq-DONE.true
+pub returns-then-is_ok-2 : goal.returns-then-is_ok-2
+returns-then-is_ok-2 c = lowest-first _ _ (λ z. omega (arith, z, refused-above _ c.if-is_ok.ensures.value)) (ok-done _ c.if-is_ok-2.ensures.value)
 
-pub returns-then-a-b : goal.returns-then-a-b
-returns-then-a-b c = lowest-left _ _ c.if-a-eq-DONE.false c.if-b-eq-DONE.false c.if-a-b.true
+pub returns-then-number : goal.returns-then-number
+returns-then-number c =
+    lowest-left _ _ (λ z. omega (arith, z, refused-above _ c.if-is_ok.ensures.value)) (λ z. omega (arith, z, refused-above _ c.if-is_ok-2.ensures.value)) (omega arith)
 
-pub returns-else-a-b : goal.returns-else-a-b
-returns-else-a-b c = lowest-right _ _ c.if-a-eq-DONE.false c.if-b-eq-DONE.false (λ h. omega (arith, c.if-a-b.false))
+pub returns-else-number : goal.returns-else-number
+returns-else-number c =
+    lowest-right _ _ (λ z. omega (arith, z, refused-above _ c.if-is_ok.ensures.value)) (λ z. omega (arith, z, refused-above _ c.if-is_ok-2.ensures.value)) (λ h. omega (arith, c.if-number.false))

@@ -1,12 +1,9 @@
 -- `rowparts::draw_by_locations` meets its contract. The invariant: the first k pixels stand from `at` on. Assumes nothing.
-use Rattle.std.proofs.Common.{◌≡◌, ◌+◌, ◌-◌, ◌*◌, ◌≤◌, length}
+use Rattle.std.proofs.Common.{◌≡◌}
 use Rattle.line.specs.declared.Line.TheVariants as L
 use Rattle.picture.specs.Picture.{part, patched}
 use Rattle.rows.specs.Pixel.{ramp_pixel}
 use Rattle.rowparts.proofs.draw_by_locations.Given as goal
 
 abbrev pub invariant-loop-k : goal.invariant-loop-k
-invariant-loop-k l = (l.buf ≡ patched l.initial.buf l.at (part (ramp_pixel l.ramp (L.Straight l.v) l.z.w l.z.h) l.i l.k l.j)) × (l.o ≡ l.at + 4 * l.k) × (l.k ≤ l.n) × (length l.buf ≡ length l.initial.buf)
-
-abbrev pub decreases-loop-k : goal.decreases-loop-k
-decreases-loop-k l = l.n - l.k
+invariant-loop-k l = l.buf ≡ patched l.initial.buf l.at (part (ramp_pixel l.ramp (L.Straight l.v) l.z.w l.z.h) l.i l.k l.j)

@@ -1,5 +1,5 @@
 -- `rowparts::draw_by_stretches` meets its contract. The invariant: the first k pixels stand from `at` on, and t is a stretch of the ramp. Assumes nothing.
-use Rattle.std.proofs.Common.{◌≡◌, ◌+◌, ◌*◌, ◌<◌, length, refl, arith, rules}
+use Rattle.std.proofs.Common.{◌≡◌, ◌+◌, ◌*◌, ◌<◌, length, refl, arith}
 use Rattle.line.specs.declared.Line.TheVariants as L
 use Rattle.picture.proofs.Rows.{part_none}
 use Rattle.picture.proofs.Patches.{patch-none}
@@ -10,26 +10,17 @@ use Rattle.rows.proofs.Pixels.{four}
 use Rattle.rowparts.proofs.draw_by_stretches.Goals as goal
 use Rattle.rowparts.proofs.draw_by_stretches.Goals.{After-slice_known-1}
 
-pub no_stretch-t-requires : goal.no_stretch-t-requires
-no_stretch-t-requires c = search rules
-
 pub loop-k-init : goal.loop-k-init
 loop-k-init c = let a = c.args in (rw part_none (patch-none a.buf.now a.at), omega arith, refl, stretched-none _ _ c.no_stretch-t.ensures)
 
 pub overflow_add-i : goal.overflow_add-i
 overflow_add-i c = let p = c.requires in omega (arith, p.2, p.1.box.width)
 
-pub location-s-requires : goal.location-s-requires
-location-s-requires c = let p = c.requires in (p.1, omega (arith, p.2))
+pub location-requires : goal.location-requires
+location-requires c = let p = c.requires in (p.1, omega (arith, p.2))
 
 pub renewed-t-requires : goal.renewed-t-requires
 renewed-t-requires c = (c.requires.0, c.loop-k.invariant.3)
-
-pub overflow_sub-n : goal.overflow_sub-n
-overflow_sub-n c = omega arith
-
-pub piece-m-requires : goal.piece-m-requires
-piece-m-requires c = omega arith
 
 pub overflow_add-i-in-loop-k : goal.overflow_add-i-in-loop-k
 overflow_add-i-in-loop-k c = let p = c.requires in omega (arith, p.2, p.1.box.width)

@@ -1,5 +1,5 @@
 -- `rowparts::draw_part` meets its contract. Assumes nothing.
-use Rattle.std.proofs.Common.{◌+◌, arith, rules}
+use Rattle.std.proofs.Common.{◌+◌, arith}
 use Rattle.picture.proofs.Rows.{part_none}
 use Rattle.picture.proofs.Patches.{patch-none}
 use Rattle.table.proofs.Stretches.{stretched-none}
@@ -25,23 +25,11 @@ pub draw_from_table-requires : goal.draw_from_table-requires
 draw_from_table-requires c =
     (omega (arith, c.if-n-eq0.false), record { fits = λ k h. c.requires.1.fits (c.args.i + k) (omega (arith, c.requires.2)); certain = c.floors_certain.ensures c.if-floors_certain.true }, c.requires.3)
 
-pub no_stretch-requires : goal.no_stretch-requires
-no_stretch-requires c = search rules
-
 pub draw_by_locations-requires : goal.draw_by_locations-requires
 draw_by_locations-requires c = let p = c.requires in (p.0, stretched-none _ _ c.no_stretch.ensures, p.1, p.2, p.3)
-
-pub shape_of-buf-then-floors_certain : goal.shape_of-buf-then-floors_certain
-shape_of-buf-then-floors_certain c = search rules
 
 pub returns-then-floors_certain : goal.returns-then-floors_certain
 returns-then-floors_certain c =
     let a = c.args in
     let t : Entries (color_in a.ramp.now) c.base_of-base.result c.table_of-t.result.now = rw (c.table_of-t.ensures, c.base_of-base.ensures) c.requires.0.table in
     c.draw_from_table.ensures (color_in a.ramp.now) a.v a.z.w a.z.h a.j t c.requires.1 c.requires.2
-
-pub shape_of-buf-else-floors_certain : goal.shape_of-buf-else-floors_certain
-shape_of-buf-else-floors_certain c = search rules
-
-pub returns-else-floors_certain : goal.returns-else-floors_certain
-returns-else-floors_certain c = search rules

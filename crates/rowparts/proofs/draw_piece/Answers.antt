@@ -1,5 +1,5 @@
 -- `rowparts::draw_piece` meets its contract. Assumes nothing.
-use Rattle.std.proofs.Common.{◌+◌, arith, rules}
+use Rattle.std.proofs.Common.{◌+◌, arith}
 use Rattle.table.proofs.Stretches.{stretched-leaps}
 use Rattle.ramp.specs.Ramp.{color_in}
 use Rattle.rowparts.proofs.draw_piece.Goals as goal
@@ -15,19 +15,7 @@ pub draw_from_stretch-requires : goal.draw_from_stretch-requires
 draw_from_stretch-requires c =
     (c.requires.3, record { fits = λ k h. c.requires.2.fits (c.args.i + k) (omega (arith, c.requires.4)); certain = c.floors_certain.ensures c.if-floors_certain.true }, stretched-leaps _ _ c.requires.1, c.requires.5)
 
-pub draw_by_locations-requires : goal.draw_by_locations-requires
-draw_by_locations-requires c = search rules
-
-pub shape_of-buf-then-floors_certain : goal.shape_of-buf-then-floors_certain
-shape_of-buf-then-floors_certain c = search rules
-
 pub returns-then-floors_certain : goal.returns-then-floors_certain
 returns-then-floors_certain c =
     let a = c.args in
     c.draw_from_stretch.ensures (color_in a.ramp.now) a.v a.z.w a.z.h a.j c.requires.1 c.requires.2 c.requires.4
-
-pub shape_of-buf-else-floors_certain : goal.shape_of-buf-else-floors_certain
-shape_of-buf-else-floors_certain c = search rules
-
-pub returns-else-floors_certain : goal.returns-else-floors_certain
-returns-else-floors_certain c = search rules

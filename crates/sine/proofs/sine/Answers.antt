@@ -1,37 +1,25 @@
--- `sine::sine` meets its contract: the code's table is the list of differences, and s a rebuilt sine after each round.
+-- `sine::sine` meets its contract: the code's table is the list of differences, and the sum a rebuilt sine after each round.
 -- Assumes nothing.
-use mathlib.Core.Path.{◌≡◌, refl, ap, ◌∙◌}
-use native.Mathlib.Omega.{arith}
+use Rattle.std.proofs.Common.{◌≡◌, refl, ap, ◌∙◌, arith, ◌+◌}
 use Rattle.sine.specs.Sines.{sines}
 use Rattle.sine.specs.Differences.{differences_of, sum_of, rebuilt_of}
-use Rattle.sine.proofs.Differences.{rebuilt, next-sum, next_small}
+use Rattle.sine.proofs.Differences.{rebuilt, next-part, rebuilt-small}
 use Rattle.sine.proofs.sine.Goals as goal
 
-pub loop-i-init : goal.loop-i-init
+pub loop-difference-init : goal.loop-difference-init
 unfolding sines differences_of rebuilt_of sum_of
-loop-i-init c = (refl, omega arith, refl)
+loop-difference-init c = (refl, refl)
 
-pub bounds-differences-i : goal.bounds-differences-i
-bounds-differences-i c = omega arith
+next : (c : goal.After-from-sum) → c.loop-difference.sum + c.from-sum.result ≡ rebuilt_of (c.loop-difference.difference-index + 1)
+next c = rw c.loop-difference.invariant.1 (next-part c.args.k _ _ c.loop-difference.invariant.0 (omega arith) c.from-sum.ensures)
 
-pub overflow_cast-s : goal.overflow_cast-s
-overflow_cast-s c = record { fits = omega (arith, next_small c.loop-i.invariant.0 c.loop-i.i (omega arith)) }
+pub overflow_add-sum : goal.overflow_add-sum
+overflow_add-sum c = record { fits = omega (arith, next c, rebuilt-small (c.loop-difference.difference-index + 1) (omega arith)) }
 
-pub overflow_add-s : goal.overflow_add-s
-overflow_add-s c = record { fits = omega (arith, next_small c.loop-i.invariant.0 c.loop-i.i (omega arith)) }
-
-pub overflow_add-i : goal.overflow_add-i
-overflow_add-i c = record { fits = omega arith }
-
-pub loop-i-smaller : goal.loop-i-smaller
-loop-i-smaller c = omega arith
-
-pub loop-i-preserved : goal.loop-i-preserved
-loop-i-preserved c =
-    let loop = c.loop-i in
-    (loop.invariant.0, omega arith, omega (arith, next-sum loop.invariant.0 loop.i))
+pub loop-difference-preserved : goal.loop-difference-preserved
+loop-difference-preserved c = (c.loop-difference.invariant.0, next c)
 
 pub returns : goal.returns
 returns c =
-    let all : c.loop-i.i ≡ c.args.k = omega arith in
-    c.loop-i.invariant.2 ∙ ap rebuilt_of all ∙ rebuilt.same _ c.requires
+    let all : c.loop-difference.difference-index ≡ c.args.k = omega arith in
+    c.loop-difference.invariant.1 ∙ ap rebuilt_of all ∙ rebuilt.same _ c.requires

@@ -10,21 +10,6 @@ use Rattle.picture.proofs.Patches.{patch-step}
 use Rattle.words.specs.Word.{word_bytes}
 use Rattle.stopslayout.proofs.put_stop.Goals as goal
 
-pub put-requires : goal.put-requires
-put-requires c = search rules
-
-pub overflow_add-at : goal.overflow_add-at
-overflow_add-at c = search rules
-
-pub bits-requires : goal.bits-requires
-bits-requires c = search rules
-
-pub put_word-requires : goal.put_word-requires
-put_word-requires c = search rules
-
-pub shape_of-out : goal.shape_of-out
-shape_of-out c = search rules
-
 pub returns : goal.returns
 returns c =
     let a = c.args in

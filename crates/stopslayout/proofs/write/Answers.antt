@@ -1,5 +1,5 @@
 -- `stopslayout::write` meets its contract. The invariant: the first places stand from byte 4 on. Assumes nothing.
-use mathlib.Core.Path.{◌≡◌, refl, ◌∙◌}
+use mathlib.Core.Path.{◌≡◌, ◌∙◌}
 use native.Mathlib.Omega.{arith}
 use lib.ListN.{length, take}
 use lib.Seq.{take_all}
@@ -13,47 +13,14 @@ use Rattle.stopslayout.proofs.write.Goals.{Start}
 sixteen : (c : Start) → length c.args.p.stops ≡ 16
 sixteen c = search (unmapped, rules)
 
-pub overflow_cast-p : goal.overflow_cast-p
-overflow_cast-p c = search rules
-
-pub put-requires : goal.put-requires
-put-requires c = search rules
-
 pub loop-place-init : goal.loop-place-init
-loop-place-init c = (patch-none _ 4, search rules, refl)
-
-pub offset_bounds-p-place : goal.offset_bounds-p-place
-offset_bounds-p-place c = search rules
-
-pub bounds-p-place : goal.bounds-p-place
-bounds-p-place c = search rules
-
-pub overflow_mul-place : goal.overflow_mul-place
-overflow_mul-place c = search rules
-
-pub overflow_add-place : goal.overflow_add-place
-overflow_add-place c = search rules
-
-pub put_stop-requires : goal.put_stop-requires
-put_stop-requires c = search rules
-
-pub overflow_add-place-in-loop-place : goal.overflow_add-place-in-loop-place
-overflow_add-place-in-loop-place c = search rules
-
-pub loop-place-smaller : goal.loop-place-smaller
-loop-place-smaller c = search rules
+loop-place-init c = patch-none _ 4
 
 pub loop-place-preserved : goal.loop-place-preserved
 loop-place-preserved c =
     let l = c.loop-place in
     let n = sixteen (goal.at.loop-place-preserved c).Start in
-    (place-step c.args.p.stops c.put.new.buf l.out _ l.place (omega arith) (omega arith) l.invariant.0 c.put_stop.ensures, search rules, search rules)
-
-pub clear_from-requires : goal.clear_from-requires
-clear_from-requires c = search rules
-
-pub shape_of-out : goal.shape_of-out
-shape_of-out c = search rules
+    place-step c.args.p.stops c.put.new.buf l.out _ l.place (omega arith) (omega arith) l.invariant c.put_stop.ensures
 
 pub returns : goal.returns
 returns c =
@@ -61,4 +28,4 @@ returns c =
     let n = sixteen (goal.at.returns c).Start in
     let e : l.place ≡ 16 = omega arith in
     let all : take 16 c.args.p.stops ≡ c.args.p.stops = take_all 16 c.args.p.stops (omega arith) in
-    c.clear_from.ensures ∙ all-written c.args.p c.args.out.now c.put.new.buf l.out n (omega arith) c.put.ensures (rw (e, all) at l.invariant.0)
+    c.clear_from.ensures ∙ all-written c.args.p c.args.out.now c.put.new.buf l.out n (omega arith) c.put.ensures (rw (e, all) at l.invariant)

@@ -3,15 +3,8 @@ use Prim.Native.Nat.{◌<◌}
 use native.Mathlib.Omega.{arith}
 use Rattle.line.specs.declared.Line.TheVariants as L
 use Rattle.line.proofs.Bounds.{sound-location}
-use borrow.Author.Rules.{rules}
 use Rattle.straight.proofs.corner.Goals as goal
 use Rattle.straight.proofs.corner.Goals.{Joined-below, Joined-right, then-right, else-right, then-below, else-below}
-
-pub overflow_sub-i : goal.overflow_sub-i
-overflow_sub-i c = search rules
-
-pub overflow_sub-j : goal.overflow_sub-j
-overflow_sub-j c = search rules
 
 column : (c : Joined-right) → c.if-right.i < c.args.z.w
 column c = let p = c.requires in elim c.if-right.branch [ then-right w ↦ omega (arith, w.i-is, p.4, p.5) | else-right w ↦ omega (arith, w.i-is, p.4, p.5) ]
@@ -26,6 +19,3 @@ pub overflow_cast-result : goal.overflow_cast-result
 overflow_cast-result c =
     let a = c.args in
     omega (arith, c.location.ensures, sound-location (L.Straight a.v) a.z.w a.z.h _ _ c.requires.1 c.requires.0 (column (goal.at.overflow_cast-result c).Joined-right) (row (goal.at.overflow_cast-result c).Joined-below))
-
-pub returns : goal.returns
-returns c = search rules

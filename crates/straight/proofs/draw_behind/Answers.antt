@@ -5,18 +5,8 @@ use native.Mathlib.Omega.{arith}
 use mir.Syntax.{w64}
 use mir.Val.{Fits}
 use Rattle.straight.proofs.Shifts.{behind-drawn}
-use borrow.Author.Rules.{rules}
 use Rattle.straight.proofs.draw_behind.Goals as goal
 use Rattle.straight.proofs.draw_behind.Goals.{Start}
-
-pub overflow_sub-n : goal.overflow_sub-n
-overflow_sub-n c = search rules
-
-pub draw_part-requires : goal.draw_part-requires
-draw_part-requires c = search rules
-
-pub overflow_mul-s : goal.overflow_mul-s
-overflow_mul-s c = search rules
 
 -- the copy's place fits
 fits : (c : Start) → Fits w64 (c.args.at + 4 * c.args.s.columns)
@@ -24,15 +14,6 @@ fits c = omega (arith, c.requires.0.room, c.requires.0.narrow)
 
 pub overflow_add-at : goal.overflow_add-at
 overflow_add-at c = fits (goal.at.overflow_add-at c).Start
-
-pub overflow_mul-n : goal.overflow_mul-n
-overflow_mul-n c = search rules
-
-pub copy_row-requires : goal.copy_row-requires
-copy_row-requires c = search rules
-
-pub shape_of-buf : goal.shape_of-buf
-shape_of-buf c = search rules
 
 pub returns : goal.returns
 returns c =

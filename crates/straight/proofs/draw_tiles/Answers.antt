@@ -8,67 +8,60 @@ use native.Mathlib.Omega.{arith}
 use lib.ListN.{length}
 use mir.Syntax.{w64}
 use mir.Val.{Fits}
-use borrow.Author.Rules.{rules}
 use Rattle.line.specs.declared.Line.TheVariants as L
 use Rattle.picture.proofs.Rows.{strip-none}
 use Rattle.rows.specs.Pixel.{ramp_pixel}
 use Rattle.rows.proofs.Pixels.{four}
 use Rattle.straight.proofs.Columns.{rows_step}
 use Rattle.straight.proofs.draw_tiles.Goals as goal
-use Rattle.straight.proofs.draw_tiles.Goals.{After-at_most-n}
+use Rattle.straight.proofs.draw_tiles.Goals.{After-min-n}
 
 pub loop-j-init : goal.loop-j-init
 loop-j-init c =
     (rw (sub_self, mul-zero, add-zero), omega arith, c.requires.3, refl, λ f d g l e. rw strip-none e)
 
 -- n rows more have room
-room : (c : After-at_most-n) → (c.loop-j.o + 4 * c.args.z.w * c.at_most-n.result ≤ length c.args.buf.now) × Fits w64 (c.loop-j.o + 4 * c.args.z.w * c.at_most-n.result)
+room : (c : After-min-n) → (c.loop-j.o + 4 * c.args.z.w * c.min-n.result ≤ length c.args.buf.now) × Fits w64 (c.loop-j.o + 4 * c.args.z.w * c.min-n.result)
 room c =
     let a = c.args in
     let l = c.loop-j in
-    let m : 4 * a.z.w * (l.j - a.z.a + c.at_most-n.result) ≤ 4 * a.z.w * (a.z.b - a.z.a) = mul-le-mul_left (4 * a.z.w) (omega (arith, c.at_most-n.ensures)) in
-    let r : l.o + 4 * a.z.w * c.at_most-n.result ≤ length a.buf.now = omega (arith, c.requires.5) in
+    let m : 4 * a.z.w * (l.j - a.z.a + c.min-n.result) ≤ 4 * a.z.w * (a.z.b - a.z.a) = mul-le-mul_left (4 * a.z.w) (omega (arith, c.min-n.ensures)) in
+    let r : l.o + 4 * a.z.w * c.min-n.result ≤ length a.buf.now = omega (arith, c.requires.5) in
     let short : length a.buf.now < 18446744073709551616 = omega arith in
     (r, omega (arith, r, short))
 
-pub overflow_sub-z : goal.overflow_sub-z
-overflow_sub-z c = omega arith
-
-pub at_most-n-requires : goal.at_most-n-requires
-at_most-n-requires c = search rules
-
 pub overflow_add-band : goal.overflow_add-band
-overflow_add-band c = omega (arith, c.at_most-n.ensures)
+overflow_add-band c = omega (arith, c.min-n.ensures)
 
 pub draw_band-requires : goal.draw_band-requires
 draw_band-requires c =
     let p = c.requires in
     let l = c.loop-j in
-    let n = c.at_most-n.ensures in
-    let e : l.j + c.at_most-n.result - l.j ≡ c.at_most-n.result = omega arith in
-    (p.0, p.1, p.2, omega arith, omega (arith, n, p.4), rw e (omega (arith, (room (goal.at.draw_band-requires c).After-at_most-n).0, l.invariant.3)), p.6, p.7)
+    let n = c.min-n.ensures in
+    let e : l.j + c.min-n.result - l.j ≡ c.min-n.result = omega arith in
+    (p.0, p.1, p.2, omega arith, omega (arith, n, p.4), rw e (omega (arith, (room (goal.at.draw_band-requires c).After-min-n).0, l.invariant.3)), p.6, p.7)
 
 pub overflow_mul-o : goal.overflow_mul-o
 overflow_mul-o c = omega (arith, c.requires.1.width)
 
 pub overflow_mul-o-in-loop-j : goal.overflow_mul-o-in-loop-j
-overflow_mul-o-in-loop-j c = omega (arith, (room (goal.at.overflow_mul-o-in-loop-j c).After-at_most-n).1.fits)
+overflow_mul-o-in-loop-j c = omega (arith, (room (goal.at.overflow_mul-o-in-loop-j c).After-min-n).1.fits)
 
 pub overflow_add-o : goal.overflow_add-o
-overflow_add-o c = (room (goal.at.overflow_add-o c).After-at_most-n).1
+overflow_add-o c = (room (goal.at.overflow_add-o c).After-min-n).1
 
 pub overflow_add-j : goal.overflow_add-j
-overflow_add-j c = omega (arith, c.at_most-n.ensures)
+overflow_add-j c = omega (arith, c.min-n.ensures)
 
 pub loop-j-smaller : goal.loop-j-smaller
-loop-j-smaller c = omega (arith, c.at_most-n.ensures)
+loop-j-smaller c = omega (arith, c.min-n.ensures)
 
 pub loop-j-preserved : goal.loop-j-preserved
 loop-j-preserved c =
     let a = c.args in
     let l = c.loop-j in
-    let n = c.at_most-n.result in
-    let h = c.at_most-n.ensures in
+    let n = c.min-n.result in
+    let h = c.min-n.ensures in
     let px : (ℕ → ℕ → List ℕ) = ramp_pixel a.ramp.now (L.Straight a.v) a.z.w a.z.h in
     let q : l.j + n - a.z.a ≡ l.j - a.z.a + n = omega (arith, l.invariant.1) in (
       rw q (omega arith),

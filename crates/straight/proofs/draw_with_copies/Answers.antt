@@ -7,16 +7,12 @@ use Rattle.line.specs.declared.Line.TheVariants as L
 use Rattle.rows.specs.Pixel.{ramp_pixel}
 use Rattle.rows.proofs.Pixels.{four}
 use Rattle.straight.proofs.Shifts.{first-stand, all-drawn}
-use borrow.Author.Rules.{rules}
 use Rattle.straight.proofs.draw_with_copies.Goals as goal
 use Rattle.straight.proofs.draw_with_copies.Goals.{Start}
 
 -- the first rows end before the last
 ends : (c : Start) → c.args.z.a + c.args.s.rows < c.args.z.b
 ends c = omega (arith, c.requires.1.copies.fewer)
-
-pub overflow_add-head : goal.overflow_add-head
-overflow_add-head c = search rules
 
 pub draw_new-requires : goal.draw_new-requires
 draw_new-requires c =
@@ -40,9 +36,6 @@ draw_shifted-requires c =
           (omega arith) (omega (arith, ends (goal.at.draw_shifted-requires c).Start)) p.straight.strip.room c.draw_new.ensures,
       c.requires.2,
     )
-
-pub shape_of-buf : goal.shape_of-buf
-shape_of-buf c = search rules
 
 pub returns : goal.returns
 returns c =

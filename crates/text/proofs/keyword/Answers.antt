@@ -1,43 +1,19 @@
--- `text::keyword` meets its contract. The invariant: the rest of the word is at the cursor where the whole word is at the start. Assumes nothing.
-use mathlib.Core.Path.{refl, sym, ap, ◌∙◌}
+-- `text::keyword` meets its contract. Assumes nothing.
+use mathlib.Core.Path.{sym, ◌∙◌}
 use native.Mathlib.Omega.{arith}
-use borrow.Author.Rules.{rules}
-use Rattle.text.specs.Text.{lower}
 use Rattle.text.proofs.Laws.{keyword-on, keyword-not, keyword-end}
 use Rattle.text.proofs.keyword.Goals as goal
 
-pub loop-i-init : goal.loop-i-init
-loop-i-init c = (omega arith, refl)
+pub returns-then-first-letter : goal.returns-then-first-letter
+returns-then-first-letter c =
+    let p = c.loop-letter in
+    keyword-not _ p.letter-index _ c.loop-letter-test.true (λ e. c.if-first-letter.true (c.first_letter-first.ensures.letter ∙ e)) ∙ p.invariant
 
-pub peek-requires : goal.peek-requires
-peek-requires c = search rules
-
-pub lower_case-requires : goal.lower_case-requires
-lower_case-requires c = search rules
-
-pub bounds-word-i : goal.bounds-word-i
-bounds-word-i c = omega arith
-
-pub returns-then-lower_case-word : goal.returns-then-lower_case-word
-returns-then-lower_case-word c =
-    let p = c.loop-i in
-    let letter = c.lower_case.ensures ∙ ap lower c.peek.ensures in
-    keyword-not _ p.i _ (omega arith) (λ e. c.if-lower_case-word.true (letter ∙ e)) ∙ p.invariant.1
-
-pub step-k-requires : goal.step-k-requires
-step-k-requires c = search rules
-
-pub overflow_add-i : goal.overflow_add-i
-overflow_add-i c = omega arith
-
-pub loop-i-smaller : goal.loop-i-smaller
-loop-i-smaller c = omega arith
-
-pub loop-i-preserved : goal.loop-i-preserved
-loop-i-preserved c =
-    let p = c.loop-i in
-    let letter = c.lower_case.ensures ∙ ap lower c.peek.ensures in
-    (omega arith, rw c.step-k.ensures (keyword-on _ p.i _ (omega arith) (sym letter ∙ c.if-lower_case-word.false) ∙ p.invariant.1))
+pub loop-letter-preserved : goal.loop-letter-preserved
+loop-letter-preserved c =
+    let p = c.loop-letter in
+    let same = sym c.first_letter-first.ensures.letter ∙ c.if-first-letter.false in
+    rw c.first_letter-first.ensures.rest (keyword-on _ p.letter-index _ c.loop-letter-test.true same ∙ p.invariant)
 
 pub returns : goal.returns
-returns c = let p = c.loop-i in keyword-end _ p.i _ (omega arith) ∙ p.invariant.1
+returns c = let p = c.loop-letter in keyword-end c.args.word.now p.letter-index p.rest.now (omega arith) ∙ p.invariant

@@ -1,12 +1,9 @@
--- `text::keyword` meets its contract. The invariant: the rest of the word is at the cursor where the whole word is at the start. Assumes nothing.
+-- `text::keyword` meets its contract. The invariant: what is left of the word is at the front of the rest where the whole word is at that of the
+-- text. Assumes nothing.
 use mathlib.Core.Path.{◌≡◌}
-use Prim.Native.Nat.{◌≤◌, ◌-◌}
-use lib.ListN.{length, drop}
+use lib.ListN.{drop}
 use Rattle.text.specs.Text.{keyword_of}
 use Rattle.text.proofs.keyword.Given as goal
 
-abbrev pub invariant-loop-i : goal.invariant-loop-i
-invariant-loop-i l = (l.i ≤ length l.word) × (keyword_of (drop l.i l.word) (drop l.k.at l.s) ≡ keyword_of l.word (drop l.initial.k.at l.s))
-
-abbrev pub decreases-loop-i : goal.decreases-loop-i
-decreases-loop-i l = length l.word - l.i
+abbrev pub invariant-loop-letter : goal.invariant-loop-letter
+invariant-loop-letter l = keyword_of (drop l.letter-index l.word) l.rest ≡ keyword_of l.word l.s

@@ -1,18 +1,16 @@
 -- `tokens::read_number` meets its contract: its parts are read with the magnitude cut off, which gives the number cut off. Assumes nothing.
 use mathlib.Core.Path.{◌≡◌, sym, ap, ◌∙◌}
+use mathlib.Core.Bool.{Bool}
 use mathlib.Core.List.{List}
 use Prim.Native.Nat.{ℕ, ◌≤◌}
 use native.Mathlib.Omega.{arith}
-use lib.Dec.{eqb}
 use lib.IntN.{ℤ}
 use mir.Syntax.{w32}
 use mir.Val.{to_z, of_z}
-use borrow.Author.Rules.{rules}
-use Rattle.text.specs.Text.{peek_of, got, refused, ◌>>=◌, map_read}
-use Rattle.text.proofs.Laws.{seen, bind-map, bind-same, gets-is, gets-mapped}
+use Rattle.text.specs.Text.{got, refused, ◌>>=◌, map_read}
+use Rattle.text.proofs.Laws.{bind-map, bind-same, gets-is, gets-mapped}
 use Rattle.tokens.specs.Number.{after_sign, is_negative, magnitude_of, unit_of, signed, number, number_of}
 use Rattle.tokens.specs.Cut.{most, cut, up_to}
-use Rattle.tokens.specs.View.{view_amount, view_unit}
 use Rattle.tokens.specs.declared.Unit.{Unit}
 use Rattle.tokens.proofs.Cut.{cut-signed, unit-cut}
 use Rattle.tokens.proofs.Signed.{signed_back}
@@ -37,48 +35,14 @@ module _ (l m : List ℕ) (hm : m ≡ after_sign l) where
     no-unit : refused ≡ unit_of n k → refused ≡ number_of cut l
     no-unit q = rw (by_parts l, ← hm, ← h, ← q)
 
-    all : {u : Unit} {e : List ℕ} (b : ℕ) → b ≡ peek_of l → got u e ≡ unit_of n k → (z : ℤ) → z ≡ signed (eqb b 45) n → got (number (to_z w32 (of_z w32 z)) u) e ≡ number_of cut l
-    unfolding is_negative
-    all b p q z r = rw (by_parts l, ← hm, ← h, ← q, ← p, r, signed_back (eqb b 45) n (magnitude-small m h))
+    all : {u : Unit} {e : List ℕ} (b : Bool) → b ≡ is_negative l → got u e ≡ unit_of n k → (z : ℤ) → z ≡ signed b n → got (number (to_z w32 (of_z w32 z)) u) e ≡ number_of cut l
+    all b p q z r = rw (by_parts l, ← hm, ← h, ← q, ← p, r, signed_back b n (magnitude-small m h))
 
-pub peek-negative-requires : goal.peek-negative-requires
-peek-negative-requires c = search rules
+pub returns-in_err-magnitude : goal.returns-in_err-magnitude
+returns-in_err-magnitude c = rw c.from_residual.ensures (no-magnitude _ _ c.read_sign-negative.ensures.rest c.in_err-magnitude.ensures)
 
-pub skip_sign-requires : goal.skip_sign-requires
-skip_sign-requires c = search rules
-
-pub read_magnitude-requires : goal.read_magnitude-requires
-read_magnitude-requires c = search rules
-
-pub enum_known-magnitude : goal.enum_known-magnitude
-enum_known-magnitude c = search rules
-
-pub enum_told-1 : goal.enum_told-1
-enum_told-1 c = search rules
-
-pub returns-in_default : goal.returns-in_default
-returns-in_default c = no-magnitude _ _ c.skip_sign.ensures (seen (view_amount _) c.in_default.is c.read_magnitude.ensures)
-
-pub read_unit-requires : goal.read_unit-requires
-read_unit-requires c = search rules
-
-pub enum_known-unit : goal.enum_known-unit
-enum_known-unit c = search rules
-
-pub enum_told-in_default-read_unit : goal.enum_told-in_default-read_unit
-enum_told-in_default-read_unit c = search rules
-
-pub returns-in_default-read_unit : goal.returns-in_default-read_unit
-returns-in_default-read_unit c =
-    no-unit _ _ c.skip_sign.ensures (seen (view_amount _) c.in-Got.is c.read_magnitude.ensures)
-    (seen (view_unit _) c.in_default-read_unit.is c.read_unit.ensures)
-
-pub with_sign-value-requires : goal.with_sign-value-requires
-with_sign-value-requires c =
-    magnitude-small _ (seen (view_amount _) c.in-Got.is c.read_magnitude.ensures)
+pub returns-in_err-unit : goal.returns-in_err-unit
+returns-in_err-unit c = rw c.from_residual-in_err-unit.ensures (no-unit _ _ c.read_sign-negative.ensures.rest c.in_ok-magnitude.ensures c.in_err-unit.ensures)
 
 pub returns : goal.returns
-returns c =
-    all _ _ c.skip_sign.ensures (seen (view_amount _) c.in-Got.is c.read_magnitude.ensures)
-    _ c.peek-negative.ensures (seen (view_unit _) c.in-Got-read_unit.is c.read_unit.ensures)
-    _ c.with_sign-value.ensures
+returns c = all _ _ c.read_sign-negative.ensures.rest c.in_ok-magnitude.ensures _ c.read_sign-negative.ensures.negative c.in_ok-unit.ensures _ c.with_sign-value.ensures
