@@ -102,7 +102,7 @@ impl Pictures {
 // ---- the report
 
 // So many pictures of a kind of shape, or of each kind in turn, in a sort of box.
-#[derive(Clone, Copy)]
+#[derive(Clone, Copy, Debug, PartialEq, Eq)]
 struct Batch {
     kind: Option<Kind>,
     sort: Sort,

@@ -1,7 +1,7 @@
 // Random numbers from seeds, and random gradients, boxes and rows of boxes made of them. A seed gives the same ones each time.
 #![tactic(auto)]
 
-ghost use Rattle.std.specs.Prelude.{◌<◌, ◌≤◌, ◌^◌, length};
+ghost use Rattle.std.specs.Prelude.{◌<◌, ◌^◌, length};
 
 use gradient::{
     Color, Coordinate, Direction, Extent, Gradient, Horizontal, Position, Shape, Side, Size, Stop,

@@ -11,7 +11,7 @@ const MOST: usize = 64;
 // ---- charts
 
 // A text, the box that it is drawn in, its rows that are drawn, from the first up to the end, if not all, and how many bytes the buffer has.
-#[derive(Clone, Copy)]
+#[derive(Clone, Copy, Debug, PartialEq, Eq)]
 struct Chart {
     text: &'static str,
     size: (usize, usize),

@@ -83,7 +83,6 @@ fn down_at(v: Vertical) -> Coordinate
 }
 
 // A part taken along one axis, where it can be.
-// Kept: one function for both axes takes the axis as a parameter, and six arms of pairs for these eight of parts.
 fn as_across(p: Part) -> Option<Coordinate>
     ensures { result ≡ as_across p }
 {

@@ -10,6 +10,7 @@ use gradient::{Direction, Horizontal, Side, Vertical};
 use text::word_for;
 use tokens::Unit;
 
+// Kept: a function for each axis, here and for the sides below: crate gradient names them by two enums, and all that these two say is their words.
 #[tactic(auto, unfolding(crate::specs::Direction::horizontal_of))]
 pub fn read_horizontal(s: &[u8]) -> Option<(Horizontal, &[u8])>
     ensures { view result ≡ horizontal_of s.now }

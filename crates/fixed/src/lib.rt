@@ -5,7 +5,7 @@
 ghost use Rattle.std.specs.Prelude.{◌≡◌, ℕ, ◌+◌, ◌*◌, ◌<◌, ◌≤◌, true, IsTrue, ◌↔◌};
 ghost use Rattle.line.specs.Box.{Box};
 ghost use Rattle.line.specs.Location.{location_by};
-ghost use Rattle.line.specs.Represented.{Bounded, odd_of, rule_in};
+ghost use Rattle.line.specs.Represented.{Bounded, rule_in};
 ghost use Rattle.fixed.specs.Steps.{Approximates, Steady, Reaches, place_at, Advances, AlongRow, Decided, FloorInTable, Certain};
 
 use line::{Line, SignedVector};

@@ -134,7 +134,7 @@ pub fn blank_gradient() -> Gradient
         shape: Shape::Linear(Direction::Side(Side::Top)),
         repeating: false,
         count: 0,
-        stops: stops,
+        stops,
     }
 }
 

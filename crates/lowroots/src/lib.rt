@@ -15,7 +15,6 @@ pub const SHORT_LIMIT: u32 = 4194304;
 const SIGN_BIT: u32 = 2147483648;
 
 // 1 where x is above y, else 0.
-// Kept: a number and no `bool`, since `among_4` adds three of them without a branch.
 fn above(x: u32, y: u32) -> u32
     ensures { (result ≤ 1) × (result ≡ 0 → x ≤ y) × (result ≡ 1 → y < x) }
 {

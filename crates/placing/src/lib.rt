@@ -1,7 +1,7 @@
 // From a gradient and a box to placed stops. Inside, positions are biased, and a stop that is not placed has none.
 #![tactic(auto)]
 
-ghost use Rattle.std.specs.Prelude.{◌≡◌, true, map, ℕ, ◌+◌, ◌≤◌, ◌<◌, pos, length, take, drop, get_or};
+ghost use Rattle.std.specs.Prelude.{◌≡◌, true, map, ℕ, ◌≤◌, ◌<◌, pos, length, take, get_or};
 ghost use Rattle.numbers.specs.Biased.{twice_bias, unbiased};
 ghost use Rattle.replies.specs.Refused.{reply_of};
 ghost use Rattle.gradient.specs.Blank.{blank_stop};
@@ -90,7 +90,7 @@ fn raise_stops(ps: &mut [Option<u32>])
 // ---- (c): the unplaced stops between two placed ones are spaced evenly
 
 // The next placed stop, and how many unplaced ones stand before it.
-#[derive(Clone, Copy)]
+#[derive(Clone, Copy, Debug, PartialEq, Eq)]
 struct Next {
     at: u32,
     run: usize,
@@ -162,7 +162,7 @@ fn placed_stop(s: Stop, u: u32) -> PlacedStop
 {
     let color = s.color;
     PlacedStop {
-        color: color,
+        color,
         position: numbers::unbiased(u),
     }
 }

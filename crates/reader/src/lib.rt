@@ -129,7 +129,7 @@ fn conclude(d: Draft) -> Result<Gradient, Refusal>
         shape: d.shape,
         repeating: d.repeating,
         count: list.count,
-        stops: stops,
+        stops,
     })
 }
 

@@ -78,7 +78,6 @@ fn root_from(x: u64, g: u32) -> u64
 }
 
 // 1 where x is at least y, else 0.
-// Kept: a number and no `bool`, since `nearby` adds two of them to its guess.
 fn reaches(x: u64, y: u64) -> u64
     ensures { result ≤ 1 }
 {

@@ -2,7 +2,7 @@
 // where there is none, from the walks of stretches.
 #![tactic(auto)]
 
-ghost use Rattle.std.specs.Prelude.{◌≡◌, ℕ, ◌+◌, ◌*◌, ◌<◌, ◌≤◌, List, length};
+ghost use Rattle.std.specs.Prelude.{◌≡◌, ℕ, ◌+◌, ◌*◌, ◌<◌, ◌≤◌, length};
 ghost use Rattle.line.specs.Represented.{rule_in};
 ghost use Rattle.line.specs.declared.SignedVector.{SignedVector};
 ghost use Rattle.picture.specs.Picture.{part, patched};

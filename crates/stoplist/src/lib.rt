@@ -97,7 +97,7 @@ pub fn read_stops(s: &[u8]) -> Option<StopList>
     let mut left = Some(s);
     while let Some(text) = left {
         let (item, rest) = first_item(text);
-        // Kept: `let .. else`, the form that document 01 names for this place.
+        // Kept: `let .. else`, the form that docs/DECISIONS.md names for this place.
         let Some(stop) = whole_stop(item) else {
             return None;
         };

@@ -54,10 +54,7 @@ pub fn no_stops() -> PlacedStops
     ensures { result ≡ no_stops }
 {
     let stops = [blank_placed(); 16];
-    PlacedStops {
-        count: 0,
-        stops: stops,
-    }
+    PlacedStops { count: 0, stops }
 }
 
 #[tactic(auto, unfolding(crate::specs::Blank::is_blank_placed))]

@@ -47,7 +47,6 @@ fn draw_columns(
 }
 
 // Draws the columns from `from` up to `end` of a strip whose rows start at `at`, a tile's columns at a time.
-// Kept: a `while`, as the last tile may be narrower: with `step_by` the counter would go past the end, and its invariant be no plainer.
 fn draw_band(
     ramp: &[u32],
     steps: Steps,
@@ -70,7 +69,6 @@ fn draw_band(
 }
 
 // The same, a tile's rows at a time.
-// Kept: a `while`, as the last tile may be lower, as with the columns.
 pub fn draw_tiles(
     ramp: &[u32],
     steps: Steps,

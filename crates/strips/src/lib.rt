@@ -1,12 +1,12 @@
 // Strips of a picture, each kind of line by the code that is fastest for it. All tables are made here, on the stack, as large as a strip needs.
 #![tactic(auto)]
 
-ghost use Rattle.std.specs.Prelude.{◌≡◌, true, ℕ, ◌+◌, ◌≤◌, ◌<◌, length};
+ghost use Rattle.std.specs.Prelude.{◌≡◌, ℕ, ◌+◌, ◌≤◌, ◌<◌, length};
 ghost use Rattle.line.specs.declared.Line.{Line};
 ghost use Rattle.line.specs.Box.{Box};
 ghost use Rattle.line.specs.Represented.{Bounded, Near};
 ghost use Rattle.picture.specs.Picture.{patched};
-ghost use Rattle.ramp.specs.Ramp.{head_size, color_in, Stops, Ramp};
+ghost use Rattle.ramp.specs.Ramp.{color_in, Stops, Ramp};
 ghost use Rattle.rows.specs.Pixel.{Placed, Rows, Drawable, strip_of};
 ghost use Rattle.circle.specs.Circular.{Circular};
 ghost use Rattle.strips.specs.Plan.{wide, small_table, most_entries, last_base, Planned, SlantedPlanned, HasRoom, Room};
@@ -146,7 +146,6 @@ fn draw_planned(p: Plan, stops: &[u32], l: Line, z: Strip, buf: &mut [u8])
 }
 
 // Draws a strip along a line in sections, each with a table of its own in the room that is lent.
-// Kept: a `while`, as the last section may be narrower: with `step_by` the counter would go past the end, and its invariant be no plainer.
 fn draw_sections(ramp: &mut [u32], stops: &[u32], v: SignedVector, z: Strip, buf: &mut [u8])
     requires { Drawable stops.now (Line.Straight v) z (length buf.old) × Room 0 (length ramp.old) }
     ensures { buf.new ≡ patched buf.old 0 (strip_of stops.now (Line.Straight v) z) }

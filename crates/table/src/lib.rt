@@ -99,7 +99,6 @@ fn fill_walked(
     let last = blocks_end(at, end, values, i, g, stride);
     let mut w = Channels::begin(values, i, g, stride, x);
     let mut k = at;
-    // Kept: k is where the walks are, in blocks and after them; a `for` over blocks would leave it to be computed again.
     while k + 16 <= last {
         w = fill_even(t, k, 16, w);
         k += 16;

@@ -23,6 +23,7 @@ impl fmt::Display for Quantity {
     }
 }
 
+// Kept: an `impl` for each enum, here and below, as each is the words of that enum and nothing more.
 impl fmt::Display for Shown<Horizontal> {
     fn fmt<W: fmt::Write>(&self, f: &mut fmt::Formatter<W>) -> fmt::Result {
         f.write_str(match self.0 {

@@ -1,12 +1,12 @@
 // Numbers and colors of the text.
 #![tactic(auto)]
 
-ghost use Rattle.std.specs.Prelude.{◌≡◌, ◌+◌, ◌*◌, ◌-◌, ◌≤◌, min, [], length};
+ghost use Rattle.std.specs.Prelude.{◌≡◌, ◌+◌, ◌*◌, ◌≤◌, min, [], length};
 ghost use Rattle.text.specs.Text.{map_read};
 ghost use Rattle.text.specs.View.{view, view_whole, SplitsRun};
 ghost use Rattle.tokens.specs.Number.{is_digit, decimal, is_negative, after_sign, signed, fraction_of, magnitude_of, unit_of, number_of};
 ghost use Rattle.tokens.specs.Cut.{cut, most, up_to};
-ghost use Rattle.tokens.specs.Color.{color, is_hex, hex_value, hex_color, hex_of, named_of, color_names, color_of};
+ghost use Rattle.tokens.specs.Color.{color, hex_value, hex_color, hex_of, named_of, color_names, color_of};
 
 use gradient::Color;
 use text::word_for;
