@@ -23,21 +23,15 @@ use stops::PlacedStops;
 
 // ---- reading
 
-// Judges a lent slice of n bytes, then reads the text.
-#[tactic(auto, using(replies::proofs::Laws::refused_first, replies::proofs::Laws::done_next, from_text::proofs::Texts::read_reply, from_text::proofs::Texts::read_gradient, from_text::proofs::Texts::no_gradient), unfolding(crate::specs::Calls::read_call))]
-fn read_for(text: &[u8], n: usize) -> Result<Gradient, Refusal>
-    ensures reply { reply_of result ≡ read_call text.now n }
-    ensures gradient { IfOk result (λ g. g ≡ (read_of text.now).gradient) }
-{
-    replies::size_reply(layout::SIZE, n)?;
-    reader::read(text)
-}
-
+// Judges a lent slice, then reads a text into it: one function, since a gradient that is handed on is copied once more on the stack.
 fn read(text: &[u8], out: &mut [u8]) -> Result<(), Refusal>
     ensures { Handed (read_call text.now (length out.old)) (layout_of (read_of text.now).gradient)
         (reply_of result) out.old out.new }
 {
-    match read_for(text, out.len()) {
+    if let Err(refusal) = replies::size_reply(layout::SIZE, out.len()) {
+        return Err(replies::refuse(out, refusal));
+    }
+    match reader::read(text) {
         Ok(g) => {
             layout::write(g, out);
             Ok(())

@@ -1,7 +1,15 @@
 -- Pixels that are drawn from a table with one entry for each column or row, counted from the side that the line starts at.
 -- Assumes nothing.
-use Rattle.std.specs.Prelude.{Bool, true, false, List, ℕ, ◌-◌, get_or}
+use Rattle.std.specs.Prelude.{◌≡◌, Bool, true, false, List, ℕ, ◌-◌, ◌<◌, ◌⊎◌, get_or}
 use Rattle.words.specs.Word.{word_bytes}
+
+-- the pixels of a small box's side, at most
+abbrev pub small_side : ℕ
+small_side = 256
+
+-- n is one of two sides, and no smaller one does for k columns or rows
+abbrev pub IsSide : ℕ → ℕ → Type 0
+IsSide k n = (n ≡ small_side) ⊎ (n ≡ 2048) × (small_side < k)
 
 -- pixel i of n, counted from the side that the line starts at, which is the last pixel's where the line goes back
 abbrev pub from_start : Bool → ℕ → ℕ → ℕ

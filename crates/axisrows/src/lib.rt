@@ -5,7 +5,7 @@ ghost use Rattle.std.specs.Prelude.{◌≡◌, List, ℕ, ◌+◌, ◌-◌, ◌*
 ghost use Rattle.picture.specs.Picture.{row, copies, strip, patched};
 ghost use Rattle.words.specs.Word.{word_bytes};
 ghost use Rattle.rows.specs.Pixel.{Drawable, strip_of};
-ghost use Rattle.axisrows.specs.Axis.{from_start, first_of, by_column, by_row};
+ghost use Rattle.axisrows.specs.Axis.{small_side, IsSide, from_start, first_of, by_column, by_row};
 
 use line::{Line, SignedVector};
 use rows::Strip;
@@ -116,7 +116,7 @@ impl Entries<'_> {
     // Draws h such rows from a block of k of them, which has N bytes of room. The bytes are copied from a local array, so that a compiler knows that it
     // does not overlap the buffer and calls the C library's copy.
     fn draw_rows<const N: usize>(self, k: usize, h: usize, buf: &mut [u8])
-        requires { (0 < k) × (4 * self.n * k ≤ N) × (N ≤ ROW_BYTES) × (4 * self.n * h ≤ length buf.old) }
+        requires { (0 < k) × (4 * self.n * k ≤ N) × (N ≤ ROW_BYTES) × (4 * self.n * h ≤ length buf.old) × (N < ROW_BYTES → self.n ≤ small_side) }
         ensures { buf.new ≡ patched buf.old 0 (copies h (row (by_column self.entry.table.now self.entry.back self.entry.n) self.entry.n 0)) }
     {
         let mut block = zeros::<u8, N>();
@@ -161,7 +161,7 @@ fn horizontal_with(t: &mut [u32], ramp: &[u32], v: SignedVector, z: Strip, buf: 
 
 // Draws a strip of a box of up to N pixels in width along a horizontal line.
 fn horizontal_to<const N: usize>(ramp: &[u32], v: SignedVector, z: Strip, buf: &mut [u8])
-    requires { Drawable ramp.now (Line.Straight v) z (length buf.old) × (v.y ≡ 0) × (z.w ≤ N) × (N ≤ LARGEST_SIDE) }
+    requires { Drawable ramp.now (Line.Straight v) z (length buf.old) × (v.y ≡ 0) × (z.w ≤ N) × (N ≤ LARGEST_SIDE) × IsSide z.w N }
     ensures { buf.new ≡ patched buf.old 0 (strip_of ramp.now (Line.Straight v) z) }
 {
     let mut t = zeros::<u32, N>();
@@ -199,7 +199,7 @@ fn vertical_with(t: &mut [u32], ramp: &[u32], v: SignedVector, z: Strip, buf: &m
 
 // Draws a strip of up to N rows along a vertical line.
 fn vertical_to<const N: usize>(ramp: &[u32], v: SignedVector, z: Strip, buf: &mut [u8])
-    requires { Drawable ramp.now (Line.Straight v) z (length buf.old) × (v.x ≡ 0) × (z.b - z.a ≤ N) × (N ≤ LARGEST_SIDE) }
+    requires { Drawable ramp.now (Line.Straight v) z (length buf.old) × (v.x ≡ 0) × (z.b - z.a ≤ N) × (N ≤ LARGEST_SIDE) × IsSide (z.b - z.a) N }
     ensures { buf.new ≡ patched buf.old 0 (strip_of ramp.now (Line.Straight v) z) }
 {
     let mut t = zeros::<u32, N>();

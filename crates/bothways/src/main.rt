@@ -92,7 +92,7 @@ impl Pictures {
         let z = Strip {
             w,
             h,
-            a: rows.start,
+            a: rows.first,
             b: rows.end,
         };
         self.try_strip(g, z)

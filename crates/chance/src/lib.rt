@@ -8,7 +8,6 @@ use gradient::{
     Vertical,
 };
 use std::fmt;
-use std::ops::Range;
 
 // The most pixels of a picture that the buffers hold.
 const MOST_PIXELS: usize = 65536;
@@ -102,6 +101,13 @@ impl Kind {
             Kind::Anywhere => anywhere(seed),
             Kind::Tiny => tiny(seed),
         }
+    }
+}
+
+// The kind with a number. Any number is taken: those past the last are the last's.
+impl From<u32> for Kind {
+    fn from(number: u32) -> Kind {
+        Kind::ALL[number.min(9) as usize]
     }
 }
 
@@ -305,11 +311,12 @@ fn stops_of(style: Style, opaque: bool, n: usize, seed: u32) -> [Stop; 16] {
     stops
 }
 
-pub fn gradient_of(kind: Kind, seed: u32) -> Gradient {
+// A gradient of a kind of shape, which may be handed over by its number.
+pub fn gradient_of(kind: impl Into<Kind>, seed: u32) -> Gradient {
     let n = stop_count(seed);
     let opaque = roll(seed, 51, 2) == 0;
     Gradient {
-        shape: kind.shape(seed),
+        shape: kind.into().shape(seed),
         repeating: roll(seed, 53, 2) == 0,
         count: n,
         stops: stops_of(pick(seed, 50, &STYLES), opaque, n as usize, seed),
@@ -325,9 +332,20 @@ pub struct Area {
     pub height: usize,
 }
 
+// Rows of a box, from the first up to the end.
+#[derive(Clone, Copy, Debug, PartialEq, Eq)]
+pub struct Rows {
+    pub first: usize,
+    pub end: usize,
+}
+
+fn from_up_to(first: usize, end: usize) -> Rows {
+    Rows { first, end }
+}
+
 impl Area {
     // Mostly all rows, else some of them, often one. Of a picture that is too large for the buffers, as many as they hold.
-    pub fn rows(self, seed: u32) -> Range<usize>
+    pub fn rows(self, seed: u32) -> Rows
         requires { (0 < self.width) × (0 < self.height) }
     {
         let h = self.height;
@@ -335,15 +353,15 @@ impl Area {
         let below = seed_of(seed, 70) as usize;
         if most < h {
             let a = below % (h - most);
-            return a..a.wrapping_add(most);
+            return from_up_to(a, a.wrapping_add(most));
         }
         let a = below % h;
         let next = a.wrapping_add(1);
         match roll(seed, 71, 8) {
-            0 => a..next,
-            1 => a..h,
-            2 => 0..next,
-            _ => 0..h,
+            0 => from_up_to(a, next),
+            1 => from_up_to(a, h),
+            2 => from_up_to(0, next),
+            _ => from_up_to(0, h),
         }
     }
 }
@@ -406,6 +424,13 @@ impl Sort {
             Sort::Largest => (2048, 2048),
         };
         Area { width, height }
+    }
+}
+
+// The sort with a number, likewise.
+impl From<u32> for Sort {
+    fn from(number: u32) -> Sort {
+        Sort::ALL[number.min(13) as usize]
     }
 }
 

@@ -2,6 +2,9 @@
 // reply and every byte of the buffer, which holds 1 in every byte before. tests/drawing/independent.py finds the same lines from the rules alone.
 #![tactic(auto)]
 
+ghost use Rattle.std.specs.Prelude.{◌≤◌};
+ghost use Rattle.charts.specs.declared.TheConstants.{MOST};
+
 use replies::Refusal;
 use std::fmt;
 
@@ -17,6 +20,7 @@ struct Chart {
     size: (usize, usize),
     rows: Option<(usize, usize)>,
     len: usize,
+    ghost held: { len ≤ MOST },
 }
 
 impl fmt::Display for Chart {
@@ -471,7 +475,7 @@ fn draw(chart: &Chart, buf: &mut [u8]) -> Result<(), Refusal> {
 // Draws a chart, and prints it, the reply and what is left in the buffer. What cannot be written is left out.
 fn report(rt: &impl Print, chart: &Chart) {
     let mut bytes = [1u8; MOST];
-    let buf = &mut bytes[..chart.len.min(MOST)];
+    let buf = &mut bytes[..chart.len];
     let reply = replies::number(draw(chart, buf));
     let _ = print!(rt; "{chart}\n{reply}:");
     for byte in buf {

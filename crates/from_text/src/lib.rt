@@ -17,7 +17,9 @@ use stops::PlacedStops;
 pub fn place_text(s: &[u8], w: usize, h: usize) -> Result<PlacedStops, Refusal>
     ensures { placing result ≡ place_text_of s.now w h }
 {
-    replies::box_reply(w, h)?;
+    if !replies::box_in(w, h) {
+        return Err(Refusal::BadBox);
+    }
     let g = reader::read(s)?;
     placing::place(g, w, h)
 }

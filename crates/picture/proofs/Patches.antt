@@ -7,7 +7,7 @@ use native.Mathlib.Nat.{add-zero, add_assoc}
 use native.Mathlib.Numerals.{add-one}
 use native.Mathlib.Omega.{arith}
 use lib.ListN.{length, get_or, take, drop, replicate, set, length-append, length-drop, length-replicate, take-append-drop, replicate-append-replicate, get_or-append}
-use lib.Seq.{length-take-le, take-add, take-append-le, drop-append-le, take_at, take-suc, drop-append-add, drop-drop, drop_at, drop-length, get_or-take, sets-eq}
+use lib.Seq.{length-take-le, take-add, take-append-le, drop-append-le, take_at, take-suc, drop-append-add, drop-drop, drop_at, drop-length, get_or-take, get_or-drop, sets-eq}
 use Rattle.std.proofs.Common.{◌*◌, min}
 use Rattle.std.proofs.lemmas.Bool.Decides.{nat_tests}
 use Rattle.picture.specs.Picture.{patched, padded, buffer}
@@ -151,6 +151,15 @@ module _ {A : Type 0} where
       let e : take k (drop (from + i) b) ≡ take k (drop i (drop from d)) =
       ap (λ (x : List A). take k (drop (from + i) x)) p ∙ patch-kept d (take i (drop from d)) to (from + i) k (omega arith) (omega arith) ∙ ap (take k) (sym (drop-drop i from d)) in
       pieces_more d b b' (drop from d) to i k (omega arith) l p (q ∙ ap (patched b (to + i)) e)
+
+  -- a turn of a loop that copies: the byte at i is copied, too
+  pub copy_step : (d b : List A) (from to i : ℕ) (z : A) → from + i < to → to + i < length d → b ≡ patched d to (take i (drop from d))
+      → set b (to + i) (get_or b (from + i) z) ≡ patched d to (take (i + 1) (drop from d))
+  copy_step d b from to i z h k p =
+      let l : i < length (drop from d) = rw length-drop (omega arith) in
+      let v : get_or b (from + i) z ≡ get_or (drop from d) i z =
+      ap (λ (x : List A). get_or x (from + i) z) p ∙ patch-before d (take i (drop from d)) to (from + i) z (omega arith) h ∙ sym (get_or-drop from d i z) in
+      rw v (piece-more d b (drop from d) to i z l k p)
 
 -- ---- the buffer after a call
 -- s written from the start on, then zeros from its end on

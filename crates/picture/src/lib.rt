@@ -35,8 +35,10 @@ fn copy_bytes(buf: &mut [u8], from: usize, to: usize, n: usize)
     requires { (from + n ≤ to) × (to + n ≤ length buf.old) }
     ensures { buf.new ≡ patched buf.old to (take n (drop from buf.old)) }
 {
-    let (front, back) = buf.split_at_mut(to);
-    back[..n].copy_from_slice(&front[from..from + n]);
+    // Kept: byte by byte, which a compiler makes wide copies of. The library's copy of a part of the buffer into another calls `memmove`.
+    for i in 0..n {
+        buf[to + i] = buf[from + i];
+    }
 }
 
 // n, or `most` where that is less.
@@ -47,7 +49,8 @@ pub fn at_most(most: usize, n: usize) -> usize
     n.min(most)
 }
 
-// Copies the n bytes that stand from `from` on to a later place, 2,048 at a time, as `copy_in` does.
+// Copies the n bytes that stand from `from` on to a later place, block by block. Copied in one loop, many rows are tested for an overlap all at once,
+// one is found, and every byte is copied by itself.
 pub fn copy_row(buf: &mut [u8], from: usize, to: usize, n: usize)
     requires { (from + n ≤ to) × (to + n ≤ length buf.old) }
     ensures { buf.new ≡ patched buf.old to (take n (drop from buf.old)) }

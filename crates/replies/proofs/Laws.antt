@@ -97,6 +97,12 @@ lowest-right zero b n m h = absurd (n refl)
 lowest-right (suc a) zero n m h = absurd (m refl)
 lowest-right (suc a) (suc b) n m h = omega arith
 
+pub lowest-other : (a b : ℕ) → (lowest a b ≡ a → ⊥) → b ≡ lowest a b
+unfolding lowest
+lowest-other zero b n = refl
+lowest-other (suc a) zero n = absurd (n refl)
+lowest-other (suc a) (suc b) n = omega (arith, n)
+
 pub lowest-zero : (a b : ℕ) → lowest a b ≡ 0 → (a ≡ 0) × (b ≡ 0)
 unfolding lowest
 lowest-zero zero b e = (refl, e)

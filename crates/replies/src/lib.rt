@@ -96,11 +96,10 @@ pub fn rows_reply(h: usize, first: usize, end: usize) -> Result<(), Refusal>
 pub fn size_reply(size: usize, n: usize) -> Result<(), Refusal>
     ensures { reply_of result ≡ size_reply size n }
 {
-    if n < size {
-        Err(Refusal::NoRoom)
-    } else {
-        Ok(())
+    if size <= n {
+        return Ok(());
     }
+    Err(Refusal::NoRoom)
 }
 
 // Judges a box, and a lent slice of n bytes for an answer of `size` bytes.
@@ -112,12 +111,15 @@ pub fn room_for(w: usize, h: usize, size: usize, n: usize) -> Result<(), Refusal
 }
 
 // Judges a box, rows `first` up to `end` of it, and a buffer of n bytes for them.
-#[tactic(auto, using(crate::proofs::Laws::refused_first, crate::proofs::Laws::done_next), unfolding(crate::specs::Room::strip_reply))]
 pub fn strip_reply(w: usize, h: usize, first: usize, end: usize, n: usize) -> Result<(), Refusal>
     ensures { reply_of result ≡ strip_reply w h first end n }
 {
-    box_reply(w, h)?;
-    rows_reply(h, first, end)?;
+    if !box_in(w, h) {
+        return Err(Refusal::BadBox);
+    }
+    if !rows_in(h, first, end) {
+        return Err(Refusal::BadRows);
+    }
     size_reply(4 * w * (end - first), n)
 }
 
@@ -128,21 +130,33 @@ pub fn room_reply(w: usize, h: usize, n: usize) -> Result<(), Refusal>
     strip_reply(w, h, 0, h, n)
 }
 
-// Of two replies the one with the lower number, where both refuse; else the one that does.
+// Of two reply numbers the lower, where both refuse; else that of the one that does. Any numbers are taken.
+pub fn lower_number(a: u32, b: u32) -> u32
+    ensures { result ≡ lowest a b }
+{
+    if a == 0 {
+        return b;
+    }
+    if b == 0 {
+        return a;
+    }
+    // Kept: by `if`, so that its edit `higher_reply` changes which is answered and nothing else.
+    if a <= b { a } else { b }
+}
+
+// The same of two replies.
 pub fn lower(a: Result<(), Refusal>, b: Result<(), Refusal>) -> Result<(), Refusal>
     ensures { reply_of result ≡ lowest (reply_of a) (reply_of b) }
 {
-    if a.is_ok() {
-        return b;
+    if lower_number(number(a), number(b)) == number(a) {
+        a
+    } else {
+        b
     }
-    if b.is_ok() {
-        return a;
-    }
-    if number(a) <= number(b) { a } else { b }
 }
 
-// Leaves zeros, and hands on the refusal.
-pub fn refuse(buf: &mut [u8], refusal: Refusal) -> Refusal
+// Leaves zeros, and hands on what is replied: a refusal, or its number.
+pub fn refuse<R>(buf: &mut [u8], refusal: R) -> R
     ensures reply { result ≡ refusal }
     ensures bytes_left { buf.new ≡ replicate (length buf.old) 0 }
 {

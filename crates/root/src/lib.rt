@@ -27,8 +27,11 @@ pub fn find(x: u64) -> Found
     let digits = root_digits(x);
     let mut q: u64 = 0;
     let mut rest: u64 = 0;
-    for round in 0..digits {
-        let left = 2 * (digits - (round + 1));
+    let mut rounds: u32 = 0;
+    // Kept: a `while`, which counts its own rounds: that what is handed out is their number is to be seen in the code alone (docs/DECISIONS.md).
+    while rounds < digits {
+        rounds += 1;
+        let left = 2 * (digits - rounds);
         q = 2 * q;
         let more = 2 * q + 1;
         rest = 4 * rest + (x >> left) % 4;
@@ -37,10 +40,7 @@ pub fn find(x: u64) -> Found
             q += 1;
         }
     }
-    Found {
-        root: q,
-        rounds: digits,
-    }
+    Found { root: q, rounds }
 }
 
 // The greatest whole number whose square is at most x.

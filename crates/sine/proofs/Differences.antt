@@ -7,7 +7,7 @@ use native.Mathlib.Nat.{not-suc-le-zero, le_of_suc-le-suc}
 use native.Mathlib.Numerals.{add-one}
 use native.Mathlib.Omega.{arith}
 use lib.ListN.{length, get_or, take}
-use Rattle.std.proofs.lemmas.List.{get_or-take}
+use Rattle.std.proofs.lemmas.List.{get_or-take, length-take-le}
 use Rattle.sine.specs.Sines.{sines, sine_of}
 use Rattle.sine.specs.Differences.{differences_of, sum_of, rebuilt_of, Rebuilt}
 use Rattle.sine.proofs.Rules.{rules, entries, neighbors, parts}
@@ -58,6 +58,10 @@ rebuilt = record {
 -- .. also in a list of the first k of them
 pub next-part : {l : List ℕ} (k i d : ℕ) → l ≡ take k (differences_of sines) → i < k → d ≡ get_or l i 0 → rebuilt_of i + d ≡ rebuilt_of (i + 1)
 next-part k i d e h at = rw (at, e, get_or-take k (differences_of sines) i 0 h) (next-sum refl i)
+
+-- there are k of these
+pub count-part : {l : List ℕ} (k : ℕ) → k ≤ 360 → l ≡ take k (differences_of sines) → length l ≡ k
+count-part k h e = rw e (length-take-le k (differences_of sines) (omega (arith, count)))
 
 -- no sum on the way is above what two entries may have together
 pub rebuilt-small : (k : ℕ) → k ≤ 360 → rebuilt_of k ≤ 23171

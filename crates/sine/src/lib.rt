@@ -373,8 +373,10 @@ pub fn sine(k: usize) -> u32
     requires { k ≤ 360 }
     ensures { result ≡ sine_of k }
 {
+    // A constant is copied wherever it is named: here once, and not in each round.
+    let differences = DIFFERENCES;
     let mut sum = 0;
-    for difference in &DIFFERENCES[..k] {
+    for difference in &differences[..k] {
         sum += u32::from(*difference);
     }
     sum

@@ -9,7 +9,7 @@ ghost use Rattle.picture.specs.Picture.{patched};
 ghost use Rattle.ramp.specs.Ramp.{color_in, Stops, Ramp};
 ghost use Rattle.rows.specs.Pixel.{Placed, Rows, Drawable, strip_of};
 ghost use Rattle.circle.specs.Circular.{Circular};
-ghost use Rattle.strips.specs.Plan.{wide, small_table, most_entries, last_base, Planned, SlantedPlanned, HasRoom, Room};
+ghost use Rattle.strips.specs.Plan.{wide, IsWidth, small_table, most_entries, last_base, Planned, SlantedPlanned, HasRoom, Room};
 
 use line::{BiasedCenter, Line, SignedVector};
 use rows::Strip;
@@ -73,7 +73,7 @@ fn zeros<const N: usize>() -> [u32; N]
 
 // Draws a strip around a circle's center, with lists for so many columns.
 fn circle_with<const COLUMNS: usize>(ramp: &[u32], c: BiasedCenter, z: Strip, buf: &mut [u8])
-    requires { Ramp ramp.now × Circular c z (length buf.old) × (z.w ≤ COLUMNS) × (COLUMNS ≤ wide) }
+    requires { Ramp ramp.now × Circular c z (length buf.old) × (z.w ≤ COLUMNS) × (COLUMNS ≤ wide) × IsWidth z.w COLUMNS }
     ensures { buf.new ≡ patched buf.old 0 (strip_of ramp.now (Line.Circle c) z) }
 {
     let mut low = zeros::<COLUMNS>();

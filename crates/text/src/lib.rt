@@ -1,7 +1,8 @@
 // Reading a text of bytes. A reading takes the text from some place on, and answers what it found there and the rest after it.
 #![tactic(auto)]
 
-ghost use Rattle.std.specs.Prelude.{◌≡◌, ℕ, Bool, List};
+ghost use Rattle.std.specs.Prelude.{◌≡◌, ◌≤◌, ℕ, Bool, List, length};
+ghost use Rattle.std.specs.List.{prefix_len};
 ghost use Rattle.text.specs.Text.{peek_of, rest_of, past, is_space, gap_of, lower, keyword_of, Read, whole_of};
 ghost use Rattle.text.specs.View.{view, view_rest, bytes_for, view_whole, Reads, Tests, SplitsRun};
 
@@ -10,8 +11,24 @@ pub fn run<P: Fn(u8) -> bool>(s: &[u8], class: P) -> (&[u8], &[u8])
     requires { P.IsAlwaysCallable class }
     ensures { (p : ℕ → Bool) → Tests P.Fn class p → SplitsRun p s.now result.0.now result.1.now }
 {
-    let end = s.iter().position(|b| !class(*b)).unwrap_or(s.len());
-    s.split_at(end)
+    let (fours, last) = s.as_chunks::<4>();
+    for (k, four) in fours.iter().enumerate() {
+        let end = run_end(four, &class);
+        if end < 4 {
+            return s.split_at(4 * k + end);
+        }
+    }
+    s.split_at(4 * fours.len() + run_end(last, &class))
+}
+
+// How many bytes of a class the text begins with.
+#[inline(always)]
+fn run_end<P: Fn(u8) -> bool>(s: &[u8], class: &P) -> usize
+    requires { P.IsAlwaysCallable class.now }
+    ensures as_class { (p : ℕ → Bool) → Tests P.Fn class.now p → result ≡ prefix_len p s.now }
+    ensures within { result ≤ length s.now }
+{
+    s.iter().position(|b| !class(*b)).unwrap_or(s.len())
 }
 
 // The text after the white space that it begins with.

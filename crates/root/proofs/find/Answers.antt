@@ -7,7 +7,6 @@ use Rattle.root.specs.Digits.{digits_of}
 use Rattle.root.proofs.Laws.{root-eq}
 use Rattle.root.proofs.Digits.{digits-most, digits-hold}
 use Rattle.root.proofs.find.Goals as goal
-use Rattle.root.proofs.find.Goals.{then-more-rest, else-more-rest}
 use Rattle.root.proofs.find.Invariants.{Leaves}
 
 leaves-root : (y q rest : ℕ) → Leaves y q rest → q ≡ root_of 1 y
@@ -33,28 +32,77 @@ bring x k r q rest h l = rw (two-more x k r h) l
 all : (x k r : ℕ) → k ≤ r → x / 2 ^ (2 * (k - r)) ≡ x
 all x k r h = ap (λ (e : ℕ). x / 2 ^ (2 * e)) (sub-eq-zero_of_le h) ∙ div-one x
 
-pub loop-round-init : goal.loop-round-init
-loop-round-init c =
+pub root_digits-digits-requires : goal.root_digits-digits-requires
+root_digits-digits-requires c = tt
+
+pub loop-rounds-init : goal.loop-rounds-init
+loop-rounds-init c =
     let x = c.args.x in
     let e = c.root_digits-digits.ensures in
-    (rw e (digits-most x c.ranges.x.fits), omega arith, (sym (rw (sub-zero c.root_digits-digits.result, e) (digits-hold x)), omega arith))
+    (omega arith, rw e (digits-most x c.ranges.x.fits), omega arith, (sym (rw (sub-zero c.root_digits-digits.result, e) (digits-hold x)), omega arith))
 
-pub loop-round-preserved : goal.loop-round-preserved
-loop-round-preserved c =
-    let loop = c.loop-round in
-    let k = c.root_digits-digits.result in
-    let before = bring c.args.x k loop.round loop.q loop.rest c.loop-round-test.true loop.invariant.2 in
-    let after : Leaves (c.args.x / 2 ^ (2 * (k - (loop.round + 1)))) c.if-more-rest.q c.if-more-rest.rest =
-    elim c.if-more-rest.branch [
-      | then-more-rest w ↦ rw (w.q-is, w.rest-is) (one _ _ _ before (omega arith))
-      | else-more-rest w ↦ rw (w.q-is, w.rest-is) (none _ _ _ before (omega arith))
-    ] in
-    (loop.invariant.0, leaves-small c.args.x _ _ _ c.ranges.x.fits (div-le_self _ _) after, after)
+pub overflow_add-rounds : goal.overflow_add-rounds
+overflow_add-rounds c = omega arith
+
+pub overflow_sub-left : goal.overflow_sub-left
+overflow_sub-left c = omega arith
+
+pub overflow_mul-left : goal.overflow_mul-left
+overflow_mul-left c = omega arith
+
+pub overflow_mul-q : goal.overflow_mul-q
+overflow_mul-q c = omega arith
+
+pub overflow_mul-more : goal.overflow_mul-more
+overflow_mul-more c = omega arith
+
+pub overflow_add-more : goal.overflow_add-more
+overflow_add-more c = omega arith
+
+pub overflow_mul-rest : goal.overflow_mul-rest
+overflow_mul-rest c = omega arith
+
+pub overflow_cast-rest : goal.overflow_cast-rest
+overflow_cast-rest c = omega arith
+
+pub overflow_shr-rest : goal.overflow_shr-rest
+overflow_shr-rest c = omega arith
+
+pub overflow_add-rest : goal.overflow_add-rest
+overflow_add-rest c = omega arith
+
+pub overflow_add-q : goal.overflow_add-q
+overflow_add-q c = omega arith
+
+pub loop-rounds-smaller-then-more-rest : goal.loop-rounds-smaller-then-more-rest
+loop-rounds-smaller-then-more-rest c = omega arith
+
+pub loop-rounds-preserved-then-more-rest : goal.loop-rounds-preserved-then-more-rest
+loop-rounds-preserved-then-more-rest c =
+    let start = c.before.before.before.before in
+    let digits = c.root_digits-digits.result in
+    let loop = c.loop-rounds in
+    let b = bring start.args.x digits loop.rounds loop.q loop.rest (omega arith) loop.invariant.3 in
+    let l = one _ loop.q loop.rest b (omega arith) in
+    (omega arith, loop.invariant.1, leaves-small start.args.x _ _ _ start.ranges.x.fits (div-le_self _ _) l, l)
+
+pub loop-rounds-smaller : goal.loop-rounds-smaller
+loop-rounds-smaller c = omega arith
+
+pub loop-rounds-preserved : goal.loop-rounds-preserved
+loop-rounds-preserved c =
+    let start = c.before.before.before.before in
+    let digits = c.root_digits-digits.result in
+    let loop = c.loop-rounds in
+    let b = bring start.args.x digits loop.rounds loop.q loop.rest (omega arith) loop.invariant.3 in
+    let l = none _ loop.q loop.rest b (omega arith) in
+    (omega arith, loop.invariant.1, leaves-small start.args.x _ _ _ start.ranges.x.fits (div-le_self _ _) l, l)
 
 pub returns : goal.returns
 returns c =
     let x = c.args.x in
     let digits = c.root_digits-digits in
-    let loop = c.loop-round in
-    let q : loop.q ≡ root_of 1 x = leaves-root _ _ _ loop.invariant.2 ∙ ap (root_of 1) (all x _ _ c.loop-round-test.false) in
-    (q, digits.ensures ∙ ap digits_of (sym q), loop.invariant.0)
+    let loop = c.loop-rounds in
+    let q : loop.q ≡ root_of 1 x = leaves-root _ _ _ loop.invariant.3 ∙ ap (root_of 1) (all x _ _ c.loop-rounds-test.false) in
+    let rounds : loop.rounds ≡ digits.result = omega arith in
+    (q, rounds ∙ digits.ensures ∙ ap digits_of (sym q), omega arith)

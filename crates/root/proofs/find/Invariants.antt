@@ -7,5 +7,8 @@ use Rattle.root.proofs.find.Given as goal
 abbrev pub Leaves : ℕ → ℕ → ℕ → Type 0
 Leaves y q rest = (q * q + rest ≡ y) × (rest ≤ 2 * q)
 
-abbrev pub invariant-loop-round : goal.invariant-loop-round
-invariant-loop-round l = (l.digits ≤ 32) × (l.q < 4294967296) × Leaves (l.x / 2 ^ (2 * (l.digits - l.round))) l.q l.rest
+abbrev pub invariant-loop-rounds : goal.invariant-loop-rounds
+invariant-loop-rounds l = (l.rounds ≤ l.digits) × (l.digits ≤ 32) × (l.q < 4294967296) × Leaves (l.x / 2 ^ (2 * (l.digits - l.rounds))) l.q l.rest
+
+abbrev pub decreases-loop-rounds : goal.decreases-loop-rounds
+decreases-loop-rounds l = l.digits - l.rounds
