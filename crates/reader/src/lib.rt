@@ -81,7 +81,7 @@ fn read_body(kind: Kind, s: &[u8]) -> Option<Draft>
 fn body(s: &[u8]) -> Option<&[u8]>
     ensures { view_body result ≡ body_of s.now }
 {
-    let trimmed = s.trim_ascii_end();
+    let trimmed = text::trim_end(s);
     match trimmed {
         [body @ .., b')'] => Some(body),
         _ => None,

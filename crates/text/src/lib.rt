@@ -3,6 +3,7 @@
 
 ghost use Rattle.std.specs.Prelude.{◌≡◌, ◌≤◌, ℕ, Bool, List, length};
 ghost use Rattle.std.specs.List.{prefix_len};
+ghost use Rattle.std.specs.Str.{IsTrimAsciiEnd};
 ghost use Rattle.text.specs.Text.{peek_of, rest_of, past, is_space, gap_of, lower, keyword_of, Read, whole_of};
 ghost use Rattle.text.specs.View.{view, view_rest, bytes_for, view_whole, Reads, Tests, SplitsRun};
 
@@ -31,13 +32,82 @@ fn run_end<P: Fn(u8) -> bool>(s: &[u8], class: &P) -> usize
     s.iter().position(|b| !class(*b)).unwrap_or(s.len())
 }
 
+// At the place of each byte an s if it is white space, and else a dash.
+static SPACES: [u8; 256] = *b"\
+    ---------ss-ss------------------\
+    s-------------------------------\
+    --------------------------------\
+    --------------------------------\
+    --------------------------------\
+    --------------------------------\
+    --------------------------------\
+    --------------------------------";
+
+// Kept: by a table. The library's `is_ascii_whitespace` compares, and 900 blanks in a text took up to 1.4 of the time by it.
+fn is_space(b: u8) -> bool
+    ensures { result ≡ is_space b }
+{
+    SPACES[b as usize] == b's'
+}
+
+// The text after white space that it begins with, four bytes at a time: up to three of it stay. By `&`, as four bytes then take one branch.
+#[tactic(auto, using(crate::proofs::Space::past_four))]
+fn skip_fours(mut s: &[u8]) -> &[u8]
+    ensures { past is_space result.now ≡ past is_space s.now }
+{
+    while let [a, b, c, d, rest @ ..] = s
+        && is_space(*a) & is_space(*b) & is_space(*c) & is_space(*d)
+    {
+        s = rest;
+    }
+    s
+}
+
+// The same, byte by byte: none of it stays.
+#[tactic(auto, using(crate::proofs::Space::past_space), unfolding(crate::specs::Text::past))]
+fn skip_bytes(mut s: &[u8]) -> &[u8]
+    ensures { result.now ≡ past is_space s.now }
+{
+    while let [first, rest @ ..] = s
+        && is_space(*first)
+    {
+        s = rest;
+    }
+    s
+}
+
 // The text after the white space that it begins with.
-#[tactic(auto, using(crate::proofs::Space::same_space))]
+#[tactic(auto, using(crate::proofs::Space::past_space), unfolding(crate::specs::Text::past))]
 pub fn skip_space(s: &[u8]) -> &[u8]
     ensures { result.now ≡ past is_space s.now }
 {
-    let (_, rest) = run(s, |b| b.is_ascii_whitespace());
-    rest
+    match s {
+        [first, rest @ ..] if is_space(*first) => skip_bytes(skip_fours(rest)),
+        _ => s,
+    }
+}
+
+// The text without white space at its end, four bytes at a time: up to three of it stay.
+// Kept: beside `trim_ascii_end`, by which alone 900 blanks at the end of a text took up to 1.4 of the time.
+fn trim_fours(mut s: &[u8]) -> &[u8]
+    ensures { (r : List ℕ) → IsTrimAsciiEnd result.now r → IsTrimAsciiEnd s.now r }
+{
+    while let [rest @ .., a, b, c, d] = s
+        && is_space(*a)
+        && is_space(*b)
+        && is_space(*c)
+        && is_space(*d)
+    {
+        s = rest;
+    }
+    s
+}
+
+// The text without the white space at its end.
+pub fn trim_end(s: &[u8]) -> &[u8]
+    ensures { IsTrimAsciiEnd s.now result.now }
+{
+    trim_fours(s).trim_ascii_end()
 }
 
 // White space, at least one.
