@@ -1,11 +1,12 @@
 -- White space as the standard library tells it, and a text without that which it begins with. Assumes nothing.
 use mathlib.Core.Path.{◌≡◌, refl, ap}
-use mathlib.Core.Bool.{Bool, true, false, cond, ◌&&◌, false≢true}
+use mathlib.Core.Bool.{Bool, true, false, cond, ◌&&◌}
 use mathlib.Core.List.{List, [], ◌∷◌}
 use Prim.Native.Nat.{ℕ, suc, ◌-◌, ◌≤◌, ◌<◌}
 use native.Mathlib.Omega.{arith}
 use lib.ListN.{length, take, drop, get_or}
 use Rattle.std.proofs.Math.Seq.{take-length}
+use Rattle.std.proofs.lemmas.Bool.{and_parts}
 use Rattle.std.specs.Char.{is_ascii_whitespace, to_ascii_lowercase}
 use Rattle.text.specs.Text.{past, is_space, gap_of, got, refused, lower, peek_of, rest_of}
 use Rattle.text.proofs.Laws.{past_stop, past-on, rest-less, space-end}
@@ -32,19 +33,15 @@ past_space (b ∷ l) h e =
     let less : suc (length l) - 1 ≡ length l = omega arith in
     rw (e, less, take-length l) refl
 
-both : (a b : Bool) → (a && b) ≡ true → (a ≡ true) × (b ≡ true)
-both true b h = (refl, h)
-both false b h = absurd (false≢true h)
-
 -- the same of four bytes
 pub past_four : (l : List ℕ) → 4 ≤ length l
     → (((is_space (get_or l 0 0) && is_space (get_or l 1 0)) && is_space (get_or l 2 0)) && is_space (get_or l 3 0)) ≡ true
     → past is_space (take (length l - 4) (drop 4 l)) ≡ past is_space l
 unfolding past
 past_four (a ∷ b ∷ c ∷ d ∷ l) h e =
-    let last = both ((is_space a && is_space b) && is_space c) (is_space d) e in
-    let third = both (is_space a && is_space b) (is_space c) last.0 in
-    let front = both (is_space a) (is_space b) third.0 in
+    let last = and_parts ((is_space a && is_space b) && is_space c) (is_space d) e in
+    let third = and_parts (is_space a && is_space b) (is_space c) last.0 in
+    let front = and_parts (is_space a) (is_space b) third.0 in
     let less : suc (suc (suc (suc (length l)))) - 4 ≡ length l = omega arith in
     rw (front.0, front.1, third.1, last.1, less, take-length l) refl
 past_four (a ∷ b ∷ c ∷ []) h e = absurd (omega (arith, h))
